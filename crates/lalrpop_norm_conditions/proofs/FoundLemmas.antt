@@ -38,7 +38,7 @@ occurs_of : (o : Option Re) (text : Name) (re : Re) → o ≡ Some re →
     (i : ℕ) × (j : ℕ) × IsCharBoundary text i × Matches text re i j → occurs o text ≡ true
 occurs_of o text re e m = rw e (found_of re text m)
 
--- a pattern is found in a text exactly where it matches somewhere
+-- a pattern is found in a text if and only if it matches somewhere
 pub found_is_matched : (pattern text : Name) → (is_found pattern text ≡ true) ↔ MatchesSomewhere pattern text
 unfolding is_found
 found_is_matched pattern text = (somewhere (reading pattern) text, λ m. occurs_of (reading pattern) text m.0 m.1 m.2)

@@ -55,7 +55,7 @@ module _ (pattern : Name) (hir : Hir) (names : Names) (reads : Reads default_con
   unfolding is_found
   is_found_of_read = occurs_alike (meaning hir) (reading pattern) reads_alike
 
--- what is refused, memory aside, has no reading
+-- what is rejected, unless an allocation fails, has no reading
 pub refused_without_reading : (pattern : Name) (kind : ErrorKind) → Refuses default_config pattern kind → kind ≢ OutOfMemory →
     has_reading pattern ≡ false
 unfolding Refuses reading has_reading

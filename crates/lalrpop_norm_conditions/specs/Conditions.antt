@@ -17,7 +17,7 @@ abbrev pub literal_in : ClosedSymbol → Option Name
 literal_in (terminal (quoted text)) = Some text
 literal_in _ = None
 
--- The value of a condition whose left side is bound to this symbol, and none where that is no quoted literal.
+-- The value of a condition whose left operand is bound to this symbol, and none if that is no quoted literal.
 abbrev pub condition_value : ConditionOp → ClosedSymbol → Name → Option Bool
 condition_value op left right = option_map (λ literal. comparison op literal right) (literal_in left)
 

@@ -23,14 +23,14 @@ pub record Says (literal right : Name) : Type 0 where
 abbrev pub OperatorsSay : Type 0
 OperatorsSay = (literal right : Name) → Says literal right
 
--- A condition has a value exactly where its left side is bound to a quoted literal, and then it is the operator's.
+-- A condition has a value if and only if its left operand is bound to a quoted literal, and then it is the operator's.
 abbrev pub ValuesAreOfLiterals : Type 0
 ValuesAreOfLiterals = (op : ConditionOp) (left : ClosedSymbol) (right : Name) (value : Bool) →
     (condition_value op left right ≡ Some value)
     ↔ ((literal : Name) × (left ≡ terminal (quoted literal)) × (comparison op literal right ≡ value))
 
--- The definitions agree with what `regex` says by itself: what it reads has a reading, what it refuses, memory aside, has
--- none, and a pattern is found in the bytes where a search by the tree that it read finds something.
+-- The definitions agree with what `regex` says by itself: what it reads has a reading, what it rejects, unless an allocation
+-- fails, has none, and a pattern is found in the bytes where a search by the tree that it read finds something.
 pub record AgreesWithRegex (pattern : Name) : Type 0 where
   pub read : (hir : Hir) (names : Names) → Reads default_config pattern hir names → has_reading pattern ≡ true
   pub refused : (kind : ErrorKind) → Refuses default_config pattern kind → kind ≢ OutOfMemory →

@@ -5,7 +5,7 @@ use Rattle.regex_syntax.specs.Grammar.{read}
 use Rattle.regex.specs.Patterns.{Re, Matches, find_str, default_config}
 use Rattle.lalrpop_norm_theory.specs.Symbols.{Name}
 
--- The expression that stands in a pattern. There is none where the text is no pattern, may match a part of a character, or
+-- The expression that a pattern is. There is none if the text is no pattern, may match a part of a character, or
 -- nests deeper than `regex` allows.
 unfoldable pub reading : Name → Option Re
 reading pattern = option_and_then
@@ -21,11 +21,11 @@ abbrev pub occurs : Option Re → Name → Bool
 occurs None text = false
 occurs (Some re) text = is_some (find_str re text 0)
 
--- the pattern is found somewhere in the text; false where it has no reading
+-- the pattern is found somewhere in the text; false if it has no reading
 unfoldable pub is_found : Name → Name → Bool
 is_found pattern text = occurs (reading pattern) text
 
--- the pattern has a reading, which matches the text from some place between characters up to another place
+-- the pattern has a reading, which matches the text from some position between characters up to another one
 abbrev pub MatchesSomewhere : Name → Name → Type 0
 MatchesSomewhere pattern text =
     (re : Re) × (reading pattern ≡ Some re) × ((i : ℕ) × (j : ℕ) × IsCharBoundary text i × Matches text re i j)

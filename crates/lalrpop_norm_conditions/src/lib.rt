@@ -17,7 +17,7 @@ use std::alloc::{AllocError, Global};
 pub enum ConditionError {
     /// The pattern on the right is not well formed, may match a part of a character, or nests too deep.
     NoReading,
-    /// There was no memory, or the compiled pattern would pass the size limit of `regex`.
+    /// An allocation failed, or the compiled pattern would pass the size limit of `regex`.
     Memory,
 }
 
@@ -31,8 +31,7 @@ impl From<AllocError> for ConditionError {
     }
 }
 
-/// The value of a condition with this operator, the quoted literal that its left side is bound to, and the text on its
-/// right.
+/// The value of a condition with this operator, the quoted literal that its left operand is bound to, and the text on its right.
 ///
 /// A comparison of texts does not fail. A search in which the pattern has no reading gives no value: it fails with
 /// `NoReading`, which comes nowhere else, or with `Memory`. Any other search fails with `Memory` only.
@@ -70,8 +69,8 @@ fn finds(alloc: Global, pattern: &str, text: &str) -> Result<bool, ConditionErro
     Ok(matcher.is_match(text))
 }
 
-/// Operators compare texts, or say whether a pattern matches somewhere in a literal; and a condition has a value exactly
-/// where its left side is bound to a quoted literal.
+/// Operators compare texts, or say whether a pattern matches somewhere in a literal. A condition has a value if and only if its
+/// left operand is bound to a quoted literal.
 pub fn conditions_say()
     ensures operators { OperatorsSay }
     ensures values { ValuesAreOfLiterals }

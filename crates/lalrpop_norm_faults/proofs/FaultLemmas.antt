@@ -40,12 +40,12 @@ none_first (f ∷ fs) e = absurd (cc e)
 pub both_none : (xs ys : List Fault) → xs ≡ [] → ys ≡ [] → xs ++ ys ≡ []
 both_none xs ys h k = rw h k
 
--- what stands ahead of no faults is none
+-- what is ahead of no faults is none
 pub none_ahead : (b : Bool) (f : Fault) (fs : List Fault) → fault_if b f ++ fs ≡ [] → b ≡ false
 none_ahead true f fs h = cc
 none_ahead false f fs h = refl
 
--- a fault that stands unless something holds
+-- a fault that holds unless something else does
 pub holds_unless : (b : Bool) (f : Fault) → fault_if (not b) f ≡ [] → b ≡ true
 holds_unless true f h = refl
 holds_unless false f h = absurd (cc h)

@@ -1,4 +1,4 @@
--- Findings: what may be told of lists one after the other, and what that says.
+-- Findings: the faults that may be reported of lists one after the other, and what that says.
 use Rattle.std.proofs.Common.{◌≡◌, ◌⊎◌, List, [], ◌∷◌, ◌++◌, map, Some, Result, Ok, Err, inl, inr, refl, ap, arith}
 use Rattle.std.specs.Prelude.{Contains}
 use Rattle.lalrpop_norm_faults.specs.declared.failure.NormFailure.{NormFailure}
@@ -12,14 +12,14 @@ pub first_stands : (fs : List Fault) (f : Fault) → first fs ≡ Some f → Con
 first_stands [] f h = absurd cc
 first_stands (g ∷ fs) f h = let same : g ≡ f = cc in (0, omega arith, same)
 
--- what may be told stands
+-- what may be reported holds
 pub told_stands : {P : Type 0} (At : P → Fault → Type 0) (fs : List (Finding P)) (f : Fault) → MayBeTold At fs f → StandsAmong At fs f
 told_stands At [] f h = h
 told_stands At (sure g ∷ fs) f h = inl h
 told_stands At (maybe p ∷ fs) f (inl h) = inl h
 told_stands At (maybe p ∷ fs) f (inr h) = inr (told_stands At fs f h)
 
--- What may be told is the first of the sure ones, or stands at one of the places, with no sure fault before that.
+-- What may be reported is the first of the sure ones, or holds at one of the points, with no sure fault before that.
 pub told_by : {P : Type 0} (At : P → Fault → Type 0) (fs : List (Finding P)) (f : Fault) → MayBeTold At fs f →
     (first (sure_ones fs) ≡ Some f)
     ⊎ ((before : List (Finding P)) × (p : P) × (after : List (Finding P)) × (fs ≡ before ++ maybe p ∷ after) × (sure_ones before ≡ []) × At p f)
@@ -45,7 +45,7 @@ pub first_told : {P : Type 0} (At : P → Fault → Type 0) (fs : List Fault) (f
 first_told At [] f h = absurd cc
 first_told At (g ∷ fs) f h = cc
 
--- a call that refuses by the first of a list, among calls that tell some faults one way
+-- a call that reports the first of a list, among calls of which some faults may go unreported
 pub refuses_among : {P T : Type 0} (At : P → Fault → Type 0) (r : Result T NormFailure) (fs : List Fault) → Refuses r fs → RefusesAmong At r (map sure fs)
 refuses_among {P} At (Ok x) fs h = rw (sure_all P fs) h
 refuses_among At (Err (Refused e)) fs h = first_told At fs (e.fault, e.span) h

@@ -1,4 +1,4 @@
--- Lists of faults, and answers that name the first of one.
+-- All errors of a pass in visiting order, as a list of faults; and answers that report the first error.
 use Rattle.std.specs.Prelude.{String, string_bytes, ◌≡◌, ℕ, Bool, if◌then◌else◌, List, [], ◌∷◌, ◌⊎◌}
 use Rattle.std.specs.Prelude.{Option, Some, None, Result, Ok, Err, codes}
 use Rattle.lalrpop_norm_tree_names.specs.declared.names.Span.{Span}
@@ -29,15 +29,15 @@ use Rattle.lalrpop_norm_faults.specs.declared.failure.NormError.{NormError}
 use Rattle.lalrpop_norm_faults.specs.declared.failure.NormFailure.{NormFailure}
 use Rattle.lalrpop_norm_faults.specs.declared.failure.NormFailure.TheVariants.{Refused, Memory}
 
--- a fault where it stands
+-- a fault with its span
 abbrev pub Fault : Type 0
 Fault = FaultKind × Span
 
--- what a refusal says: the fault, its message and its span
+-- what an error reports: the fault, its message and its span
 abbrev pub error_view : NormError → FaultKind × (List ℕ × Span)
 error_view e = (e.fault, (string_bytes e.message, e.span))
 
--- why there is no answer: what a refusal says, or nothing where memory was refused
+-- why there is no answer: what an error reports, or nothing if an allocation failed
 abbrev pub failure_view : NormFailure → Option (FaultKind × (List ℕ × Span))
 failure_view (Refused e) = Some (error_view e)
 failure_view Memory = None
@@ -47,26 +47,26 @@ abbrev pub first : List Fault → Option Fault
 first [] = None
 first (f ∷ fs) = Some f
 
--- the failure names that fault; a want of memory says nothing
+-- the failure reports that fault; a failed allocation reports nothing
 abbrev pub IsFault : Option Fault → NormFailure → Type 0
 IsFault f (Refused e) = f ≡ Some (e.fault, e.span)
 IsFault f Memory = Unit
 
--- the failure names the first of the faults
+-- the failure reports the first of the faults
 abbrev pub IsFirst : List Fault → NormFailure → Type 0
 IsFirst fs e = IsFault (first fs) e
 
--- the failure is the refusal of that fault with the message, where there is one, else want of memory
+-- the failure reports that fault with the message, if there is one, else a failed allocation
 abbrev pub IsRefusal : FaultKind → Span → Result (String Global) AllocError → NormFailure → Type 0
 IsRefusal f s (Ok m) e = e ≡ Refused (record { fault = f; message = m; span = s })
 IsRefusal f s (Err _) e = e ≡ Memory
 
--- Ok where there is no fault, else a refusal by the first one, memory aside
+-- Ok if there is no fault, else the first one is reported, unless an allocation fails
 abbrev pub Refuses : {T : Type 0} → Result T NormFailure → List Fault → Type 0
 Refuses (Ok _) fs = fs ≡ []
 Refuses (Err e) fs = IsFirst fs e
 
--- likewise, with a fact of the value where there is no fault
+-- likewise, with a fact of the value if there is no fault
 abbrev pub RefusesOr : {T : Type 0} → Result T NormFailure → List Fault → (T → Type 0) → Type 0
 RefusesOr (Ok x) fs P = (fs ≡ []) × P x
 RefusesOr (Err e) fs P = IsFirst fs e
@@ -74,38 +74,38 @@ RefusesOr (Err e) fs P = IsFirst fs e
 abbrev pub fault_if : Bool → Fault → List Fault
 fault_if b f = if b then f ∷ [] else []
 
--- ---- faults that are told one way
+-- ---- faults of which some may go unreported
 
--- What a pass looks for, in the order of looking: a fault, which is told wherever it stands; or a place, where one may be told
--- that stands there, and may go untold.
+-- What a pass looks for, in visiting order: a fault, which is reported if it holds; or a point of the search (of any type `P`),
+-- at which a fault that holds there may be reported, and may go unreported.
 pub data Finding (P : Type 0) : Type 0 where
   sure : Fault → Finding P
   maybe : P → Finding P
 
--- the faults that are told wherever they stand
+-- the faults that are reported if they hold
 abbrev pub sure_ones : {P : Type 0} → List (Finding P) → List Fault
 sure_ones [] = []
 sure_ones (sure f ∷ fs) = f ∷ sure_ones fs
 sure_ones (maybe p ∷ fs) = sure_ones fs
 
--- the fault stands: it is one of the sure ones, or one that stands at a place
+-- the fault holds: it is one of the sure ones, or one that holds at a point
 abbrev pub StandsAmong : {P : Type 0} → (P → Fault → Type 0) → List (Finding P) → Fault → Type 0
 StandsAmong At [] f = ⊥
 StandsAmong At (sure g ∷ fs) f = (g ≡ f) ⊎ StandsAmong At fs f
 StandsAmong At (maybe p ∷ fs) f = At p f ⊎ StandsAmong At fs f
 
--- the fault may be told: it stands, and no sure one comes before it
+-- the fault may be reported: it holds, and no sure one comes before it
 abbrev pub MayBeTold : {P : Type 0} → (P → Fault → Type 0) → List (Finding P) → Fault → Type 0
 MayBeTold At [] f = ⊥
 MayBeTold At (sure g ∷ fs) f = g ≡ f
 MayBeTold At (maybe p ∷ fs) f = At p f ⊎ MayBeTold At fs f
 
--- the failure names a fault that may be told; a want of memory says nothing
+-- the failure reports a fault that may be reported; a failed allocation reports nothing
 abbrev pub IsTold : {P : Type 0} → (P → Fault → Type 0) → List (Finding P) → NormFailure → Type 0
 IsTold At fs (Refused e) = MayBeTold At fs (e.fault, e.span)
 IsTold At fs Memory = Unit
 
--- Ok only where there is no sure fault, else a refusal by one that may be told, memory aside
+-- Ok only if there is no sure fault, else one that may be reported is, unless an allocation fails
 abbrev pub RefusesAmong : {P T : Type 0} → (P → Fault → Type 0) → Result T NormFailure → List (Finding P) → Type 0
 RefusesAmong At (Ok _) fs = sure_ones fs ≡ []
 RefusesAmong At (Err e) fs = IsTold At fs e
@@ -116,9 +116,9 @@ abbrev pub RefusesAmongOr : {P T : Type 0} → (P → Fault → Type 0) → Resu
 RefusesAmongOr At (Ok x) fs Q = (sure_ones fs ≡ []) × Q x
 RefusesAmongOr At (Err e) fs Q = IsTold At fs e
 
--- ---- numbers
+-- ---- error codes
 
--- the number of a fault
+-- the error code of a fault
 abbrev pub code_of : FaultKind → List ℕ
 code_of GrammarAttribute = codes "F1"
 code_of SecondMatch = codes "F2"

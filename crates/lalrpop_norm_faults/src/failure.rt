@@ -1,4 +1,4 @@
-//! How a pass answers a fault, or want of memory.
+//! How a pass answers an error: a fault of the grammar, or a failed allocation.
 ghost use Rattle.lalrpop_norm_faults.specs.Faults.{IsFirst, IsRefusal, error_view, failure_view};
 ghost use Rattle.std.specs.Prelude.{◌≡◌, [], ◌∷◌};
 
@@ -7,23 +7,23 @@ use lalrpop_norm_tree_parts::names::Span;
 use shared_text::NoMemory;
 use std::alloc::{AllocError, AllocFailed};
 
-/// A fault where it stands.
+/// A fault with its span.
 #[derive(Debug, Drop)]
 pub struct NormError {
     /// What is wrong.
     pub fault: FaultKind,
-    /// What users are told, without number and place.
+    /// The message, without error code and span.
     pub message: String,
-    /// Where it stands: byte offsets in the grammar's text, half open.
+    /// Its span: byte offsets in the grammar's text, half open.
     pub span: Span,
 }
 
-/// Why a pass gave no answer: a fault of the grammar, or want of memory.
+/// Why a pass gave no answer: a fault of the grammar, or a failed allocation.
 #[derive(Debug, Drop)]
 pub enum NormFailure {
     /// The grammar has this fault.
     Refused(NormError),
-    /// There was no memory for the answer, or for the message of a fault.
+    /// Out of memory: an allocation failed, for the answer or for the message of a fault.
     Memory,
 }
 
@@ -83,7 +83,7 @@ impl<T: Drop> From<AllocFailed<T>> for NormFailure {
     }
 }
 
-/// The refusal of a fault, once its message is made. Where there was no memory for the message, that is the answer.
+/// The error that reports a fault, once its message is made. If an allocation for the message failed, the error is that failure.
 pub fn refusal(fault: FaultKind, span: Span, message: Result<String, AllocError>) -> NormFailure
     ensures first { IsFirst ((fault, span) ∷ []) result }
     ensures answer { IsRefusal fault span message result }

@@ -1,8 +1,8 @@
-//! What is wrong with a grammar, and its number.
+//! The kinds of faults of a grammar, and their error codes.
 ghost use Rattle.std.specs.Prelude.{◌≡◌};
 ghost use Rattle.lalrpop_norm_faults.specs.Faults.{code_of};
 
-/// What is wrong with a grammar. Each kind has a number, by which users know it.
+/// The kind of a fault. Each kind has an error code, by which users know it.
 #[derive(Clone, Copy, Debug, PartialEq, Eq)]
 pub enum FaultKind {
     /// F1: a grammar attribute is not known.
@@ -27,7 +27,7 @@ pub enum FaultKind {
     InlineOnPublic,
     /// F11: a `cfg` of no known form.
     MalformedCfg,
-    /// F12a: levels or sides, and the first alternative has no level.
+    /// F12a: levels or associativities, and the first alternative has no level.
     MissingLevel,
     /// F12b: a `precedence` whose first argument is not `level = ".."`.
     LevelArgument,
@@ -35,17 +35,17 @@ pub enum FaultKind {
     LevelNumber,
     /// F12d: an `assoc` whose first argument is not `side = ".."`.
     SideArgument,
-    /// F12e: a side that is none of the four.
+    /// F12e: an associativity that is none of the four.
     Side,
-    /// F12f: a side on the lowest level.
+    /// F12f: an associativity on the lowest level.
     SideOnLowest,
     /// F13: an alternative's attribute is not known.
     AlternativeAttribute,
-    /// F14: named or tuple symbols without code.
+    /// F14: named or tuple symbols without action code.
     NamedWithoutAction,
     /// F15: `<>` just between braces, and no named or tuple symbol.
     AnonymousInBraces,
-    /// F16: a chosen and a named symbol in one alternative or group.
+    /// F16: a selected and a named symbol in one alternative or group.
     ChosenWithNamed,
     /// F17: two named symbols of one name in one alternative or group.
     NameTwice,
@@ -53,7 +53,7 @@ pub enum FaultKind {
     ErrorWithAscent,
     /// F19: a macro call without arguments.
     MacroWithoutArguments,
-    /// F20: a lookaround, and the extern enum has no location.
+    /// F20: a location symbol (`@L`, `@R`), and the extern enum has no location.
     NoLocation,
     /// F21: a tokenizer that was written.
     WrittenIntern,
@@ -61,7 +61,7 @@ pub enum FaultKind {
     WrittenErrorTerminal,
     /// F23: the type of a symbol was written.
     WrittenOfSymbol,
-    /// F24: the action of a lookaround was written.
+    /// F24: the action of a location symbol was written.
     WrittenLookaround,
     /// F25: a name is declared twice.
     NameDeclaredTwice,
@@ -85,7 +85,7 @@ pub enum FaultKind {
     ConditionPattern,
     /// F35: a named or tuple symbol in a group.
     NamedInGroup,
-    /// F36: something is to be made into a rule in a round past the limit.
+    /// F36: a symbol is to be desugared in a round past the limit.
     RecursionCap,
     /// F37: two different symbols have one text, or a symbol has the text of a declared name.
     SharedName,
@@ -109,7 +109,7 @@ pub enum FaultKind {
     InputParameter,
     /// F47: no declared type and no alternatives.
     NoAlternatives,
-    /// F48: no declared type, and no alternative is a default one or a lookaround.
+    /// F48: no declared type, and no alternative is a default one or a location symbol.
     OnlyCoded,
     /// F49: no type follows for a rule.
     NotGrounded,
@@ -127,12 +127,12 @@ pub enum FaultKind {
     StartTaken,
     /// F56: more than 4294967296 actions.
     TooManyActions,
-    /// F57: a named or tuple symbol that is repeated so many times.
+    /// F57: a named or tuple symbol that is repeated by `X{n}`.
     NamedInTimes,
 }
 
 impl FaultKind {
-    /// Its number: `F1` to `F57`, that of levels and sides with a letter.
+    /// Its error code: `F1` to `F57`; the codes of levels and associativities have a letter.
     pub fn code(self) -> &'static str
         ensures { result.now ≡ code_of self }
     {

@@ -1,5 +1,5 @@
-//! Faults of a grammar: their kinds and numbers, and how a pass answers one. Definitions of the passes' faults and the
-//! passes themselves stand on this crate.
+//! Faults of a grammar: their kinds and error codes, and how a pass answers one. The passes, and the definitions of their faults,
+//! use this crate.
 #![tactic(auto)]
 
 mod failure;

@@ -1,4 +1,4 @@
--- The rules of a round, which stand behind those of the rounds before, are read where they stand.
+-- The rules of a round, which are behind those of the rounds before, are read in place.
 use Rattle.std.proofs.Common.{◌≡◌, ℕ, ◌-◌, ◌≤◌, List, [], ◌++◌, length, map, take, drop, append-nil, arith, sym, ap, ◌∙◌}
 use Rattle.std.proofs.lemmas.List.{take-map, drop-map, map-append, length-append, length-drop, length-map, length-take-le, take_at, drop_at, take_all, drop_all}
 use borrow.Rule.Slice.PartMut.{put_mid, mid_of, post_of}

@@ -26,7 +26,7 @@ use Rattle.lalrpop_norm_macro_expand_rules.proofs.StayLemmas.{part_stays, kind_s
 use Rattle.lalrpop_norm_macro_expand_repeats.specs.Repeats.{hole_name, repeat_shape}
 use Rattle.lalrpop_norm_macro_expand.specs.Making.{hole, repeat_pending}
 
--- ---- a symbol with its parts replaced tells what it is
+-- ---- a symbol with its parts rewritten determines what it is
 
 pub record IsCall (k : Kind) (ps : Parts) : Type 0 where
   pub is_so : is_call k ≡ true
@@ -125,7 +125,7 @@ shown_at (a ∷ names) (g ∷ given) n = by (bytes_eq a.0 n) (ap kind_of (sym (s
 pub shown_is : (names : List NonterminalString) (given : List Given) (ss : List Symbol) → map (λ g. g.symbol) given ≡ ss → shown_of names given ≡ argument_kind names (parts_view ss)
 shown_is names given ss e = fun_ext (λ n. shown_at names given n ∙ ap (λ ts. argument_kind names (parts_view ts) n) e)
 
--- ---- what is given stands for symbols
+-- ---- the environment stands for symbols
 
 texts_same : (k l : Kind) → unplaced_kind k ≡ unplaced_kind (replaced_kind l) → kind_text k ≡ kind_text l
 texts_same k l e =

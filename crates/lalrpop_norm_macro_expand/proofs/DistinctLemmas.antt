@@ -1,4 +1,5 @@
--- Where no fault stands in an expansion, the names of its plain rules are as distinct as those of the rules of the grammar.
+-- if no fault holds in an expansion, the names of the rules of its expanded grammar are as distinct as those of the rules of the
+-- grammar.
 use Rattle.std.proofs.Common.{◌≡◌, ◌≢◌, ◌⊎◌, inl, inr, ℕ, zero, suc, ◌+◌, ◌<◌, ◌≤◌, List, [], ◌∷◌, ◌++◌, Bool, true, false, map, reverse, Option, Some, None, bytes_eq, refl, sym, ap, ◌∙◌, subst, arith}
 use Rattle.std.specs.Prelude.{◌||◌, flat_map, filter, if◌then◌else◌}
 use Rattle.std.proofs.lemmas.List.{map-append}
@@ -86,7 +87,7 @@ module _ (names : List ℕ → Bool) where
       let (free, rest) = none_if (clashes names seen x) (SharedName, span_of x) (clash_faults names (after_one seen x) xs) none in
       free_after (after_one seen x) xs rest (free_one seen x (or_false (names (part_text x)) _ free).0 h)
 
--- ---- names of made rules
+-- ---- names of generated rules
 
 abbrev name_of : RuleData → List ℕ
 name_of r = r.name.0

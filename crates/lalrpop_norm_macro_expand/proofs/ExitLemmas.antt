@@ -1,4 +1,4 @@
--- An error that is handed on: nothing is told of what was changed.
+-- An error that is passed on: nothing is known of what was changed.
 use Rattle.std.proofs.Common.{◌≡◌, Result, Ok, Err}
 use Rattle.std.specs.Result.{OnOk, IsErrAnd}
 use Rattle.lalrpop_norm_faults.specs.declared.failure.NormFailure.{NormFailure}

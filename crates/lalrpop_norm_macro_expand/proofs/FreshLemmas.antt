@@ -1,4 +1,4 @@
--- What the code meets first by its text is what is new by sameness, and its faults begin as those of the definition.
+-- What the code reaches first by its text is what is new by sameness, and its faults begin as those of the definition.
 use Rattle.std.proofs.Common.{◌≡◌, inl, inr, ℕ, List, [], ◌∷◌, ◌++◌, Bool, true, false, cond, Option, Some, None, bytes_eq, refl, sym, ap, ap₂, ◌∙◌, append-nil, append_assoc}
 use Rattle.std.specs.Prelude.{not, ◌||◌, ◌&&◌, is_some, if◌then◌else◌}
 use Rattle.lalrpop_norm_tree.specs.Symbols.{Part}
@@ -34,7 +34,7 @@ first_here seen x y false e d deeper =
     (λ s. let t : bytes_eq (part_text y) (part_text x) ≡ true = is_text _ _ (sym (closed_text_same x y (same_closed x y s))) in cc (e, t)) in
     ap (λ b. b || is_in same_apart_from_spans x seen) apart ∙ deeper d
 
--- where the first of its text is the same, a symbol was met exactly where one of its text was
+-- where the first of its text is the same, a symbol was reached if and only if one of its text was
 is_in_first : (seen : List Part) (x : Part) → differs (first_with_text (part_text x) seen) x ≡ false →
     is_in same_apart_from_spans x seen ≡ is_some (first_with_text (part_text x) seen)
 is_in_first [] x h = refl
@@ -61,7 +61,7 @@ module _ (names : List ℕ → Bool) where
 
 -- ---- faults
 
--- the symbols kept, one of each text, tell of each symbol what all that were met tell
+-- the symbols kept, one of each text, say of each symbol what all that were reached say
 abbrev pub Tells : List Part → List Part → Type 0
 Tells seen met = (z : Part) → has_other met z ≡ differs (first_with_text (part_text z) seen) z
 

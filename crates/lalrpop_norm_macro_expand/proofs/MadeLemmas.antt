@@ -1,4 +1,4 @@
--- The symbols that were made into rules, round by round, are those of the definition.
+-- The symbols that were desugared, round by round, are those of the definition.
 use Rattle.std.proofs.Common.{◌≡◌, ℕ, suc, List, [], ◌∷◌, ◌++◌, Option, Some, None, cond, map, reverse, refl, sym, ap, ap₂, ◌∙◌, subst}
 use Rattle.std.specs.Prelude.{⊤}
 use Rattle.std.proofs.lemmas.List.{map-append}
@@ -49,7 +49,7 @@ kept_replaced macros (at s (named n p)) = refl
 kept_replaced macros (at s (tupled ns p)) = refl
 kept_replaced macros (at s error_terminal) = refl
 
--- ---- numbers that stand for symbols
+-- ---- ids that stand for symbols
 
 abbrev pub AllStand : List Whole → List (ℕ × List ℕ) → Type 0
 AllStand ws [] = ⊤
@@ -86,7 +86,7 @@ module _ (g : GrammarData) where
   pub none_made : (ws : List Whole) → MadeSo ws 0 []
   none_made ws = record { stand = tt; symbols = refl; kept = refl }
 
-  -- what waits, by its numbers, is what is new
+  -- what is on the worklist, by its ids, is what is new
   pub record NewOnes (ws : List Whole) (k : ℕ) (xs : List Waiting) : Type 0 where
     pub waiting : AreWaiting ws xs
     pub symbols : map (λ w. part_at ws w.number) (reverse xs) ≡ map unplaced (reverse (expansion_round comparison g k).fresh)

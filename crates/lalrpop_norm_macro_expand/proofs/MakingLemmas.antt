@@ -1,4 +1,4 @@
--- What is told of a symbol that is made into a rule, one kind after another.
+-- What is known of a symbol that is desugared, one kind after another.
 use Rattle.std.proofs.Common.{◌≡◌, ◌⊎◌, inl, inr, ℕ, List, [], ◌∷◌, Result, Ok, Err, Option, Some, None, Box, Global, refl, sym, ap, ◌∙◌, subst}
 use Rattle.std.specs.Option.{IfSome}
 use Rattle.std.specs.Prelude.{option_map, option_to_list}
@@ -39,7 +39,7 @@ use Rattle.lalrpop_norm_macro_expand.specs.Expansion.{unmade, unmade_repeat}
 use Rattle.lalrpop_norm_macro_expand.specs.Kept.{kept_by, kept_by_call}
 use Rattle.lalrpop_norm_macro_expand.specs.Making.{call_pending, repeat_pending, pending_of}
 
--- its rule, and the places that it keeps
+-- its rule, and the indices that it keeps
 abbrev pub IsMade : Making → Option Pending → Type 0
 IsMade m o = (m.pending ≡ o) × (m.kept.items ≡ [])
 
@@ -56,7 +56,7 @@ module _ (ws : List Whole) (ms : List RuleData) (n : ℕ) (s : Span) (k : Symbol
   told_as : (r : Result Making NormFailure) (v w : Kind) → v ≡ w → Told r w → Told r v
   told_as r v w seen h = subst (λ (x : Kind). Told r x) (sym seen) h
 
-  -- an error is handed on
+  -- an error is passed on
   pub told_error : (r : Result Making NormFailure) (f : NormFailure) (v w : Kind) → v ≡ w → IsErrAnd r (λ g. g ≡ f) → IsFirst (unmade ms (at s w)) f → Told r v
   told_error (Ok m) f v w seen from h = absurd from
   told_error (Err g) f v w seen from h =
@@ -142,7 +142,7 @@ module _ (ws : List Whole) (ms : List RuleData) (n : ℕ) (s : Span) (k : Symbol
   told_nothing m made (inr (inr (inr (inr (inr (inl w)))))) = told_none m _ _ w.2 (tupled_seen w.0 w.1) made refl refl refl
   told_nothing m made (inr (inr (inr (inr (inr (inr w)))))) = told_none m _ _ w error_seen made refl refl refl
 
--- ---- what is asked of a symbol that is made into a rule
+-- ---- what is asked of a symbol that is desugared
 
 pub group_stays : (k : SymbolKind) (x : ExprSymbol) → k ≡ kind.Expr x → inside_replaced (kind_view k) ≡ kind_view k → all_replaced (expr_view x) ≡ expr_view x
 group_stays k x is e =

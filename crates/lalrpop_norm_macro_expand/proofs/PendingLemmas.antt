@@ -1,4 +1,4 @@
--- The rules of symbols that wait, read where names stand for what is given, are the rules that these symbols are made into.
+-- The rules of symbols on the worklist, read in their environments, are the rules that these symbols are desugared to.
 use Rattle.std.proofs.Common.{◌≡◌, inl, inr, ℕ, List, [], ◌∷◌, ◌++◌, Bool, true, false, cond, map, Option, Some, None, bytes_eq, option_map, refl, sym, ap, ap₂, ◌∙◌, subst, append-nil}
 use Rattle.std.specs.Prelude.{flat_map, ◌||◌}
 use Rattle.std.proofs.lemmas.Bool.{and_parts}
@@ -104,7 +104,7 @@ pending_are_read macros (p ∷ ps) =
     ∙ ap₂ ◌++◌ (one_read macros p) (pending_are_read macros ps)
     ∙ sym (map-append (λ r. rule_item (replaced_rule r)) (made_rules comparison macros p) (flat_map (made_rules comparison macros) ps))
 
--- ---- what they meet
+-- ---- what they reach
 
 module _ (names : List ℕ → Bool) (start : List Part) where
   abbrev pub ReadsAs : List PendingData → List RuleData → Type 0

@@ -88,7 +88,7 @@ macros_are (extern_item t ∷ is) = macros_are is
 macros_are (intern_item t ∷ is) = macros_are is
 macros_are (use_item u ∷ is) = macros_are is
 
--- ---- symbols that are met with all that is in them
+-- ---- symbols that are reached with all that is in them
 
 alike_same : (names : List ℕ → Bool) (start xs : List Part) → MeetAlike names start (map parts_replaced xs) xs xs
 alike_same names start [] = alike_none names start
@@ -109,7 +109,7 @@ grammar_alike names g = rw (shown_items (flat_map without_macro g.items), others
 abbrev start_of : GrammarData → ℕ → List Part
 start_of g k = (expansion_round comparison g k).seen
 
--- what still stands once round k + 1 was read
+-- what still holds once round k + 1 was read
 abbrev pub faults_after : GrammarData → ℕ → ℕ → List Fault
 faults_after g k zero = past_cap (expansion_round comparison g k).fresh
 faults_after g k (suc left) = unmade_in comparison g k ++ faults_from comparison g (suc k) left
@@ -132,19 +132,19 @@ module _ (g : GrammarData) where
   fresh_is zero = refl
   fresh_is (suc k) = refl
 
-  -- each symbol that is met comes behind what is inside it
+  -- each symbol that is reached comes behind what is inside it
   inward : (names : List ℕ → Bool) (seen : List Part) (k : ℕ) → IsInward names seen (meetings comparison g k)
   inward names seen zero = inward_each names seen met_in_rule (rules_without_arguments g) (λ r. rule_inward names seen r)
   inward names seen (suc k) =
       inward_each names seen (met_by_made comparison (macros_of g)) (reverse (round k).fresh)
       (λ p. inward_each names seen met_in_rule (make p) (λ r. rule_inward names seen r))
 
-  -- what was seen before round k + 1, spans aside
+  -- what was seen before round k + 1, up to spans
   pub record Before (k : ℕ) (seen : List Part) : Type 0 where
     pub kept : map unplaced seen ≡ map unplaced (round k).seen
     pub tells : Tells (round k).seen (met_before comparison g k)
 
-  -- round k + 1 was read, and these wait
+  -- round k + 1 was read, and these are on the worklist
   pub record AtRound (limit left k : ℕ) (seen waiting : List Part) (done : List ItemData) : Type 0 where
     pub rest : expansion_faults comparison g limit ≡ faults_after g k left
     pub before : Before (suc k) seen
@@ -246,7 +246,7 @@ module _ (g : GrammarData) where
 
   -- ---- from one round to the next
 
-  -- the rules that the symbols that wait are made into
+  -- the rules that the symbols on the worklist are desugared to
   abbrev pub next_pending : ℕ → List PendingData
   next_pending k = flat_map (pending_by (macros_of g)) (reverse (round k).fresh)
 
@@ -265,7 +265,7 @@ module _ (g : GrammarData) where
       (sym (map-append (λ r. rule_item (replaced_rule r)) (made_in comparison g k) new_rules)
       ∙ ap replaced_rules (sym (flat_map-append make (made_symbols comparison g k) (reverse (round k).fresh))))
 
-  -- what waits, by its numbers
+  -- what is on the worklist, by its ids
   pub record IsMaking (t : Table) (k : ℕ) (xs : List Waiting) : Type 0 where
     pub waiting : AreWaiting (wholes_in t) xs
     pub pending : flat_map (pending_for (wholes_in t) (macros_of g)) (reverse xs) ≡ next_pending k
@@ -348,7 +348,7 @@ module _ (g : GrammarData) where
         at_round 0 a (flat_map shown_in_item others) (flat_map met_in_item others) names (none_before (seen_in a) seen) first_alike b m quiet limit limit done none l refl
         (grammar_items done (moved ∙ ap (map replaced_item) e)) none_earlier
 
-  -- the others: those that wait are made into rules, which are read
+  -- the others: those on the worklist are desugared, which are read
   module _ (limit left less k : ℕ) (a b : Table) (old : List Part) (xs : List Waiting) (done : List ItemData) (more : left ≡ suc less)
       (h : AtRound limit left k old (map (λ w. symbol_view w.symbol) xs) done) (making : IsMaking a k xs) (names : is_declared_in a ≡ declared) (seen : seen_in a ≡ old) where
     abbrev made : List PendingData

@@ -1,4 +1,4 @@
--- The lists that the code finds for made rules are those of the definition.
+-- The lists that the code finds for generated rules are those of the definition.
 use Rattle.std.proofs.Common.{◌≡◌, ℕ, zero, suc, List, [], ◌∷◌, ◌++◌, Vec, Global, Option, Some, None, Bool, true, false, not, ◌&&◌, length, map, bytes_eq, slice_get, refl, sym, ap, ap₂, ◌∙◌, arith}
 use Rattle.std.specs.Prelude.{option_map, option_to_list, if◌then◌else◌}
 use Rattle.std.specs.List.{flat_map}
@@ -34,7 +34,7 @@ use Rattle.lalrpop_norm_macro_expand.specs.Kept.{kept_places, kept_by, kept_by_c
 use Rattle.lalrpop_norm_macro_expand.specs.Made.{AreMade}
 use Rattle.lalrpop_norm_macro_expand.specs.TracedRules.{macro_list, first_list_of, origin_at, at_places, called_lists, kind_lists, node_lists, made_list, list_in}
 
--- ---- origins at places
+-- ---- origins at indices
 
 pub origin_copied : (os : List Origin) (i : ℕ) (o : Option Origin) → o ≡ slice_get os i →
     option_to_list (option_map origin_view o) ≡ origin_at (origins_view os) i
@@ -63,7 +63,7 @@ module _ (value : ConditionValue) (params : List NonterminalString) (args : Part
       by true h = ap (λ is. suc i ∷ is) h
       by false h = h
 
-  -- the origins at the places that are kept are those of the alternatives that are kept
+  -- the origins at the indices that are kept are those of the alternatives that are kept
   pub places_kept : (xs : List AlternativeData) (os : List theory.Origin) →
       at_places os (kept_places value params args 0 xs) ≡ kept_origins (λ a. is_true value params (read_all flat_reader args) a.condition) xs os
   places_kept [] os = refl
@@ -147,7 +147,7 @@ pub no_node_no_list : (ns : List Node) (ws : List Whole) → AreRows ns ws → (
 no_node_no_list ns ws rows f kept i e =
     sym (ap (λ (o : Option Whole). kind_lists f kept (as_kind o)) (none_alike ws ns rows.long i e))
 
--- ---- symbols that are made into rules
+-- ---- symbols that are desugared
 
 module _ (macros : List RuleData) (found : Name → Option TracedRule) (agree : (n : Name) → option_map rule_of_pair (found n) ≡ macro_named macros n)
     (f : Name → Option (List theory.Origin)) (lists : (n : Name) → f n ≡ option_map list_of_pair (found n)) where

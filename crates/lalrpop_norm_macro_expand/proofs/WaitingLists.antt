@@ -1,4 +1,4 @@
--- Symbols that wait, from the last one on; and rules one by one, with what is given for the names in them.
+-- Symbols on the worklist, from the last one on; and rules one by one, with their environments.
 use Rattle.std.proofs.Common.{◌≡◌, List, [], ◌∷◌, ◌++◌, length, map, Option, Some, None, reverse, append-nil, arith, refl, sym, ap, subst}
 use Rattle.std.specs.Option.{IfSome}
 use Rattle.std.specs.Prelude.{option_map, option_to_list}
@@ -57,7 +57,7 @@ module _ (ws : List Whole) where
   readable_more fs None h k = subst (AreReadable ws) (sym (append-nil fs)) h
   readable_more fs (Some p) h k = readable_last fs p.filling h k
 
--- ---- rules and what is given for the names in them, side by side
+-- ---- rules and their environments, side by side
 
 pub side_by_side : (ps : List PendingData) → filled_items (map filling_of ps) (map item_of ps) ≡ ps
 side_by_side [] = refl

@@ -12,7 +12,7 @@ pub record IsLastRound (value : ConditionValue) (g : GrammarData) (count : ℕ) 
   pub ended : IsEnded value g round
   pub first : (k : ℕ) → k < round → IsEnded value g k → ⊥
 
--- Of an expansion with that limit: how many symbols are made into rules, how many rounds were read, and how many texts of symbols
+-- Of an expansion with that limit: how many symbols are desugared, how many rounds were read, and how many texts of symbols
 -- were made, one for each rule.
 pub record AreCounts (value : ConditionValue) (g : GrammarData) (limit : ℕ) (c : Counts) : Type 0 where
   pub instances : c.instances ≡ length (made_symbols value g limit)

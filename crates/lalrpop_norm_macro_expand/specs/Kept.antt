@@ -7,11 +7,11 @@ use Rattle.lalrpop_norm_model.specs.Grammars.{ConditionValue, is_true}
 use Rattle.lalrpop_norm_model.specs.Reading.{read_all}
 use Rattle.lalrpop_norm_model.specs.MadeRules.{flat_reader, macro_named}
 
--- the place of an alternative, if its condition is true or absent where the parameters stand for the arguments
+-- the index of an alternative, if its condition is true or absent in the environment of the arguments
 abbrev pub kept_place : ConditionValue → List NonterminalString → Parts → ℕ → AlternativeData → List ℕ
 kept_place value params args i a = if is_true value params (read_all flat_reader args) a.condition then i ∷ [] else []
 
--- the places of those alternatives, in order, the first one's being this
+-- the indices of those alternatives, in order, where that of the first is this one
 abbrev pub kept_places : ConditionValue → List NonterminalString → Parts → ℕ → List AlternativeData → List ℕ
 kept_places value params args i [] = []
 kept_places value params args i (a ∷ rest) = kept_place value params args i a ++ kept_places value params args (suc i) rest
@@ -20,7 +20,7 @@ abbrev pub kept_by_call : ConditionValue → Option RuleData → Parts → List 
 kept_by_call value None args = []
 kept_by_call value (Some d) args = kept_places value d.args args 0 d.alternatives
 
--- The places, among the alternatives of the macro that a symbol calls, of those that its rule has. What calls no macro has none.
+-- The indices, among the alternatives of the macro that a symbol calls, of those that its rule has. What calls no macro has none.
 abbrev pub kept_by : ConditionValue → List RuleData → Part → List ℕ
 kept_by value macros (at s (call n args)) = kept_by_call value (macro_named macros n) args
 kept_by value macros _ = []

@@ -7,8 +7,8 @@ use Rattle.lalrpop_norm_model.specs.Expanded.{rule_names}
 use Rattle.lalrpop_norm_model.specs.PlainRules.{plain_grammar}
 use Rattle.lalrpop_norm_macro_expand.specs.Expansion.{expansion_faults}
 
--- Where the names of a grammar's rules are distinct and no fault stands in its expansion, the names of the plain rules are
--- distinct.
+-- If the names of a grammar's rules are distinct and no fault holds in its expansion, the names of the rules of the expanded
+-- grammar are distinct.
 abbrev pub NamesStayDistinct : Type 0
 NamesStayDistinct =
     (value : ConditionValue) (g : GrammarData) (limit : ℕ) → expansion_faults value g limit ≡ [] →

@@ -1,4 +1,4 @@
--- What the code makes of the symbols that wait: its own words, of which no public clause speaks.
+-- What the code generates for the symbols on the worklist: internal definitions, which no public contract clause mentions.
 use Rattle.std.specs.Prelude.{ℕ, List, [], ◌∷◌, flat_map, option_map, Option, Some, None, if◌then◌else◌}
 use Rattle.lalrpop_norm_tree_names.specs.declared.names.NonterminalString.{NonterminalString}
 use Rattle.lalrpop_norm_tree_names.specs.declared.names.Span.{Span}
@@ -21,11 +21,11 @@ use Rattle.lalrpop_norm_macro_expand_repeats.specs.Repeats.{hole_name, repeat_sh
 
 -- ---- macro calls
 
--- an alternative of a macro as the rule of a call has it, its arguments not yet given
+-- an alternative of a macro as the rule of a call has it, its arguments not yet substituted
 abbrev pub copied_alternative : Span → AlternativeData → AlternativeData
 copied_alternative s a = instance_alternative s (λ n. None) a
 
--- the same, if its condition is true or absent
+-- such an alternative, if its condition is true or absent
 abbrev pub kept_of : Span → List NonterminalString → Parts → AlternativeData → List AlternativeData
 kept_of s params args a =
     if is_true comparison params (read_all flat_reader args) a.condition then copied_alternative s a ∷ [] else []
@@ -42,7 +42,7 @@ instance_shape name s d args = record {
   alternatives = flat_map (kept_of s d.args args) d.alternatives;
 }
 
--- where the arguments are the second ones once they are replaced
+-- where the arguments are the second ones once they are rewritten
 abbrev pub call_pending : List ℕ → Span → Option RuleData → Parts → Parts → List PendingData
 call_pending name s None whole shown = []
 call_pending name s (Some d) whole shown =
@@ -50,7 +50,7 @@ call_pending name s (Some d) whole shown =
 
 -- ---- repeats
 
--- the names for which something is given: the one that stands for what is repeated
+-- the names in the environment: the one that stands for what is repeated
 abbrev pub hole : List NonterminalString
 hole = (record { 0 = hole_name }) ∷ []
 
@@ -59,10 +59,10 @@ repeat_pending name s op whole (at t k) =
     unread_rule (repeat_shape name s op (at t k) (at t (nonterminal hole_name))) (argument_kind hole (only_part (at nowhere whole)))
     (argument_kind hole (only_part (at t k)))
 
--- ---- symbols that wait
+-- ---- symbols on the worklist
 
--- The rules that a symbol is made into, where it is the first symbol spans aside, and the second one once its parts are replaced. In
--- the rule of a group they are replaced: each of them was met before the group was.
+-- The rules that a symbol is desugared to, where it is the first symbol up to spans, and the second one once its parts are
+-- rewritten. In the rule of a group they are rewritten: each of them was reached before the group was.
 abbrev pub pending_of : List RuleData → Kind → Part → List PendingData
 pending_of macros whole (at s (group ps)) = finished_rule (group_rule s ps) ∷ []
 pending_of macros whole (at s (call n ps)) = call_pending (kind_text (call n ps)) s (macro_named macros n) (call_parts whole) ps

@@ -1,4 +1,5 @@
--- Where the alternatives of the plain rules come from, as the code finds it: its own words, of which no public clause speaks.
+-- The origins of the alternatives of the expanded grammar, as the code finds them: internal definitions, which no public contract
+-- clause mentions.
 use Rattle.std.specs.Prelude.{ℕ, Vec, List, [], ◌∷◌, flat_map, Option, Some, None, option_map, option_to_list, slice_get, bytes_eq}
 use Rattle.std.specs.Prelude.{if◌then◌else◌}
 use Rattle.std.specs.declared.alloc.Global.{Global}
@@ -46,12 +47,12 @@ list_in v = origins_view v.items
 abbrev pub list_under : BTreeMap (List ℕ) (Vec Origin Global) → Name → Option (List theory.Origin)
 list_under m n = option_map list_in (get (slice_cmp nat_cmp) m n)
 
--- ---- made rules
+-- ---- generated rules
 
 abbrev pub origin_at : List theory.Origin → ℕ → List theory.Origin
 origin_at os i = option_to_list (slice_get os i)
 
--- the origins at some places
+-- the origins at some indices
 abbrev pub at_places : List theory.Origin → List ℕ → List theory.Origin
 at_places os is = flat_map (origin_at os) is
 
@@ -64,7 +65,7 @@ abbrev pub called_lists : Option (List theory.Origin) → List ℕ → List (Lis
 called_lists None kept = []
 called_lists (Some os) kept = at_places os kept ∷ []
 
--- of a symbol by its kind, where `named_list` finds the lists of macros, and a call keeps the alternatives at these places
+-- of a symbol by its kind, where `named_list` finds the lists of macros, and a call keeps the alternatives at these indices
 abbrev pub kind_lists : (Name → Option (List theory.Origin)) → List ℕ → Kind → List (List theory.Origin)
 kind_lists named_list kept (group ps) = (from_group ∷ []) ∷ []
 kind_lists named_list kept (call n ps) = called_lists (named_list n) kept
@@ -79,7 +80,7 @@ kind_lists named_list kept (named n p) = []
 kind_lists named_list kept (tupled ns p) = []
 kind_lists named_list kept error_terminal = []
 
--- the same by its node
+-- that of a symbol by its node
 abbrev pub unary_lists : Unary → List (List theory.Origin)
 unary_lists unary.Group = (from_group ∷ []) ∷ []
 unary_lists unary.Star = repeat_origins Star ∷ []
@@ -106,6 +107,6 @@ node_lists named_list kept (node.NamedLeaf l a) = []
 node_lists named_list kept (node.Terminal t) = []
 node_lists named_list kept (node.Binary b l n) = []
 
--- the list of the rule that a symbol is made into, if it is made into one
+-- the list of the rule that a symbol is desugared to, if it is desugared
 abbrev pub made_list : (Name → Option (List theory.Origin)) → List Whole → MadeSymbol → List (List theory.Origin)
 made_list named_list ws m = kind_lists named_list m.kept.items (kind_at ws m.number)

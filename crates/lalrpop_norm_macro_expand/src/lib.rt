@@ -1,4 +1,4 @@
-//! Macros, groups and repeats of a grammar become rules.
+//! Macro calls, groups, repeats and location symbols of a grammar are desugared to rules.
 #![tactic(auto)]
 
 ghost use Rattle.lalrpop_norm_macro_expand.specs.Laws.{NamesStayDistinct};
@@ -7,8 +7,8 @@ pub mod macro_expand;
 
 pub use macro_expand::traced::{expand_macros_traced, expand_resolved_traced};
 
-/// Where no fault stands in the expansion of a grammar whose rules have distinct names, the plain rules have distinct names:
-/// those of its rules, and the text of each symbol that is made into a rule.
+/// If no fault holds in the expansion of a grammar whose rules have distinct names, the rules of the expanded grammar have
+/// distinct names: those of the grammar's rules, and the text of each symbol that is desugared.
 pub fn names_stay_distinct()
     ensures { NamesStayDistinct }
 {}

@@ -1,8 +1,8 @@
-//! What is made into a rule, and the rounds in which that is done.
+//! Desugaring, and the rounds of the worklist in which it is done.
 //!
-//! Round 1 reads the rules of the grammar, each later one the rules that the round before made. To read a rule is to meet
-//! the symbols in it, inner ones before outer ones, and to put in the place of each that is made into a rule the
-//! nonterminal of its text. Symbols that are the same apart from spans are made into one rule, where they were first met.
+//! Round 1 reads the rules of the grammar, each later one the rules that the round before generated. To read a rule is to reach
+//! the symbols in it, inner ones before outer ones, and to rewrite each that is desugared to the nonterminal of its text. Symbols
+//! that are equal up to spans are desugared to one rule, where they were first reached.
 ghost use Rattle.std.specs.Prelude.{◌≡◌, ◌==◌, ◌<◌, ◌+◌, ◌++◌, [], true, false, if◌then◌else◌, IfOk, OnOk, map, length, reverse, flat_map};
 ghost use Rattle.lalrpop_norm_tree.specs.Symbols.{symbol_view};
 ghost use Rattle.lalrpop_norm_tree.specs.Items.{item_view, grammar_view};
@@ -43,15 +43,15 @@ use std::mem;
 /// How much an expansion did.
 #[derive(Clone, Copy, Debug, PartialEq, Eq)]
 pub struct Counts {
-    /// How many rules were added: one for each symbol that is made into a rule.
+    /// How many rules were added: one for each symbol that is desugared.
     pub instances: usize,
-    /// How many rounds read rules, that of the grammar's own rules with them: up to the first that met no new symbol.
+    /// How many rounds read rules, the round of the grammar's own rules included: up to the first that reached no new symbol.
     pub rounds: usize,
-    /// How many texts were made: one of each symbol that is made into a rule.
+    /// How many texts were made: one for each symbol that is desugared.
     pub texts: usize,
 }
 
-/// The refusal of what is new past the cap, at the symbol met last.
+/// The error for a new symbol past the cap, at the symbol reached last.
 fn past_cap(alloc: Global, waiting: &[Waiting]) -> NormFailure
     requires { 0 < length waiting.now }
     ensures { IsFirst (past_cap (map (λ w. symbol_view w.symbol) waiting.now)) result }
@@ -66,9 +66,9 @@ fn past_cap(alloc: Global, waiting: &[Waiting]) -> NormFailure
     )
 }
 
-/// Whether nothing waits, so that the rounds end.
+/// Whether the worklist is empty, which ends the rounds.
 ///
-/// Errors: F36 (`RecursionCap`) where something waits, and no round is left.
+/// Errors: F36 (`RecursionCap`) if the worklist is not empty, and no round is left.
 fn is_ended(alloc: Global, waiting: &[Waiting], left: u16) -> NormResult<bool>
     ensures refuses { Refuses result (if left == 0 then past_cap (map (λ w. symbol_view w.symbol) waiting.now) else []) }
     ensures ended { IfOk result (λ b. b ≡ true → waiting.now ≡ []) }
@@ -83,11 +83,11 @@ fn is_ended(alloc: Global, waiting: &[Waiting], left: u16) -> NormResult<bool>
     Ok(false)
 }
 
-/// For how many rounds like this one room is taken where there is none: items are large, so to move them again and again costs more
+/// For how many rounds like this one room is allocated if there is none. Items are large: to move them again and again costs more
 /// than room that is not used.
 const ROUNDS_OF_ROOM: usize = 4;
 
-/// Sees that there is room for the rules of a round.
+/// Reserves room for the rules of a round.
 fn make_room(done: &mut Vec<GrammarItem>, count: usize) -> Result<(), NoMemory>
     ensures { OnOk result (done.new.items ≡ done.old.items) }
 {
@@ -97,7 +97,7 @@ fn make_room(done: &mut Vec<GrammarItem>, count: usize) -> Result<(), NoMemory>
     Ok(())
 }
 
-/// Makes the rules of the symbols that wait, and reads them behind those of the rounds before.
+/// Generates the rules of the symbols on the worklist, and reads them behind those of the rounds before.
 fn read_round(
     alloc: Global,
     makers: &Makers,
@@ -134,9 +134,9 @@ fn read_round(
 struct Expanded {
     /// What `expand_resolved` answers.
     grammar: Grammar,
-    /// The symbols, by their numbers.
+    /// The symbols, by their ids.
     table: Table,
-    /// Those that are made into rules, in the order of the rules.
+    /// Those that are desugared, in the order of the rules.
     made: Vec<MadeSymbol>,
     /// How many rounds read rules.
     rounds: usize,
@@ -149,7 +149,7 @@ fn round_after(count: u16) -> usize
     usize::from(count) + 1
 }
 
-/// How many nodes there is room for at first, for each item: most rules have a name that stands in others, and a symbol of their own.
+/// How many nodes there is room for at first, for each item: most rules have a name that others use, and a symbol of their own.
 const NODES_OF_AN_ITEM: usize = 2;
 
 /// The rounds of an expansion.
@@ -157,7 +157,7 @@ fn expand_rounds(alloc: Global, grammar: Grammar, limit: u16) -> NormResult<Expa
     ensures refuses { Refuses result (expansion_faults comparison (grammar_view grammar) limit) }
     ensures whole { IfOk result (λ x. IsEnded comparison (grammar_view grammar) limit) }
     ensures plain { IfOk result (λ x. grammar_view x.grammar ≡ plain_grammar comparison (grammar_view grammar) limit) }
-    // Which symbol each made rule stands for, and which alternatives of a macro it has.
+    // The symbol that each generated rule stands for, and the alternatives of a macro that it has.
     ensures made { IfOk result (λ x. AreMade (wholes_in x.table) (grammar_view grammar) limit x.made.items) }
     ensures rounds { IfOk result (λ x. IsLastRound comparison (grammar_view grammar) x.rounds) }
     ensures table { IfOk result (λ x. IsNodeTable x.table) }
@@ -177,7 +177,7 @@ fn expand_rounds(alloc: Global, grammar: Grammar, limit: u16) -> NormResult<Expa
     let mut done = read_items(alloc, others, &mut table, &mut room)?;
     let mut made = Vec::with_capacity(alloc, room)?;
     let mut left = limit;
-    // The label is the loop's name in the proof, where its invariant and its measure stand.
+    // The label is the loop's name in the proof, which has its invariant and its measure.
     'rounds: loop {
         let waiting = table.take_waiting(alloc);
         if is_ended(alloc, &waiting, left)? {
@@ -219,12 +219,12 @@ fn expand_counted(alloc: Global, grammar: Grammar, limit: u16) -> NormResult<(Gr
     Ok((expanded.grammar, counts))
 }
 
-/// Resolves the names of a grammar (`resolve`), and makes its macro calls, groups, repeats and lookarounds into rules
-/// (`expand_resolved`). The grammar is consumed, also where it is refused.
+/// Resolves the names of a grammar (`resolve`), and desugars its macro calls, groups, repeats and location symbols to rules
+/// (`expand_resolved`). The grammar is consumed, also if it is rejected.
 ///
 /// Errors: the faults of names, F25 to F32; then those of the expansion, F33 to F37 and F57; `Memory`.
 pub fn expand_macros(alloc: Global, grammar: Grammar, limit: u16) -> NormResult<Grammar>
-    // Ok exactly where no fault stands, and a refusal names the first one, memory aside.
+    // Ok if and only if no fault holds, else the first one is reported, unless an allocation fails.
     ensures refuses { Refuses result (macro_faults comparison (grammar_view grammar) limit) }
     // No round after the first `limit` has a new symbol.
     ensures whole { IfOk result (λ made. IsEnded comparison (resolved_grammar (grammar_view grammar)) limit) }
@@ -234,8 +234,8 @@ pub fn expand_macros(alloc: Global, grammar: Grammar, limit: u16) -> NormResult<
     Ok(made)
 }
 
-/// Expands as `expand_macros` does, and counts: how many rules were added, how many rounds were read, and how many texts of symbols
-/// were made.
+/// Expands as `expand_macros` does, and counts: how many rules were added, how many rounds were read, and how many texts of
+/// symbols were made.
 ///
 /// Errors: as of `expand_macros`.
 pub fn expand_macros_counted(
@@ -243,7 +243,7 @@ pub fn expand_macros_counted(
     grammar: Grammar,
     limit: u16,
 ) -> NormResult<(Grammar, Counts)>
-    // Ok exactly where no fault stands, and a refusal names the first one, memory aside.
+    // Ok if and only if no fault holds, else the first one is reported, unless an allocation fails.
     ensures refuses { Refuses result (macro_faults comparison (grammar_view grammar) limit) }
     // No round after the first `limit` has a new symbol.
     ensures whole { IfOk result (λ made. IsEnded comparison (resolved_grammar (grammar_view grammar)) limit) }
@@ -254,18 +254,20 @@ pub fn expand_macros_counted(
     expand_counted(alloc, resolved, limit)
 }
 
-/// Makes the macro calls, groups, repeats and lookarounds of a grammar whose names are resolved into rules: the answer holds the
-/// items of the grammar but for its macros, and then the made rules, round by round, each symbol that is made into a rule
-/// replaced by the nonterminal of its text. All else stays as it is. `limit` is the number of rounds whose new symbols may be
-/// made into rules. An identifier that is not resolved counts as a name. The grammar is consumed, also where it is refused.
+/// Desugars the macro calls, groups, repeats and location symbols of a grammar whose names are resolved. The answer is the
+/// expanded grammar: the items of the grammar but for its macros, and then the generated rules, round by round, each symbol that
+/// is desugared rewritten to the nonterminal of its text. All else stays as it is. `limit` is the number of rounds whose new
+/// symbols may be desugared. An identifier that is not resolved counts as a name. The grammar is consumed, also if it is
+/// rejected.
 ///
-/// Errors: F37 (`SharedName`) at a symbol whose text is the name of a rule or macro, or the text of another symbol that was met
-/// before and is not the same; F36 (`RecursionCap`) at the last new symbol of the round after `limit` rounds; F35
-/// (`NamedInGroup`) at a group with a named or tuple symbol in it; F57 (`NamedInTimes`) at a repeat of one so many times; F33
-/// (`ConditionArgument`) at a condition of a called macro whose left side is bound to no quoted literal; F34 (`ConditionPattern`)
-/// at one that asks for a pattern without a reading; `Memory`, also where such a pattern passes the size limit of `regex`.
+/// Errors: F37 (`SharedName`) at a symbol whose text is the name of a rule or macro, or the text of another symbol that was
+/// reached before and is not the same; F36 (`RecursionCap`) at the last new symbol of the round after `limit` rounds; F35
+/// (`NamedInGroup`) at a group with a named or tuple symbol in it; F57 (`NamedInTimes`) at a repeat `X{n}` of one; F33
+/// (`ConditionArgument`) at a condition of a called macro whose left operand is bound to no quoted literal; F34
+/// (`ConditionPattern`) at one that asks for a pattern without a reading; `Memory`, also if such a pattern passes the size limit
+/// of `regex`.
 pub fn expand_resolved(alloc: Global, grammar: Grammar, limit: u16) -> NormResult<Grammar>
-    // Ok exactly where no fault stands, and a refusal names the first one, memory aside.
+    // Ok if and only if no fault holds, else the first one is reported, unless an allocation fails.
     ensures refuses { Refuses result (expansion_faults comparison (grammar_view grammar) limit) }
     // No round after the first `limit` has a new symbol.
     ensures whole { IfOk result (λ made. IsEnded comparison (grammar_view grammar) limit) }

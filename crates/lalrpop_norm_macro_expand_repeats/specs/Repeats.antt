@@ -1,4 +1,4 @@
--- Rules of repeats, in which a name stands for what is repeated: the code's own words.
+-- Rules of repeats, in which a name stands for what is repeated: internal definitions.
 use Rattle.std.specs.Prelude.{ℕ, List, codes}
 use Rattle.lalrpop_norm_tree_names.specs.declared.names.Span.{Span}
 use Rattle.lalrpop_norm_tree.specs.declared.symbol.RepeatOp.{RepeatOp}

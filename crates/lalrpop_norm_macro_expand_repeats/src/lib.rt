@@ -1,4 +1,4 @@
-//! The rules that an expansion makes of repeats.
+//! The rules that repeats are desugared to.
 #![tactic(auto)]
 
 pub mod repeats;

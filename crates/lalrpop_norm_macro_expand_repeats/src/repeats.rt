@@ -17,7 +17,7 @@ use std::alloc::Global;
 
 // ---- parts
 
-/// The name that stands, in the rules of [`repeat_rule`], for what is repeated: X. The only error is want of memory.
+/// The name that stands for what is repeated, X, in the rules of [`repeat_rule`]. The only error is a failed allocation.
 pub fn hole_name(alloc: Global) -> Result<NonterminalString, NoMemory>
     ensures { IfOk result (λ n. n.0 ≡ hole_name) }
 {
@@ -169,7 +169,7 @@ fn add_copy(symbols: &mut Vec<Symbol>, symbol: &Symbol) -> Result<(), NoMemory>
     Ok(())
 }
 
-/// `X` so many times, in a row.
+/// `X` that many times, in a row.
 #[tactic(auto, using(std::proofs::lemmas::List::replicate_more))]
 fn so_many(alloc: Global, count: u16, symbol: &Symbol) -> Result<Vec<Symbol>, NoMemory>
     ensures { IfOk result (λ v. parts_view v.items ≡ so_many count (symbol_view symbol.now)) }
@@ -181,7 +181,7 @@ fn so_many(alloc: Global, count: u16, symbol: &Symbol) -> Result<Vec<Symbol>, No
     Ok(symbols)
 }
 
-/// Of `X{n}`: `X` so many times.
+/// Of `X{n}`: `X` n times.
 fn times_rule(
     alloc: Global,
     head: Head,
@@ -199,9 +199,9 @@ fn times_rule(
     Ok(private_rule(alloc, head, inline, Some(of_vector), alternatives))
 }
 
-/// The rule of a repeat of the symbol `inner` by that operator: it has the name and the place of the head, and the attributes and the
-/// type of such a repeat. In its alternatives the name that [`hole_name`] answers stands for the symbol, at the symbol's place. What is
-/// made into rules is to be replaced in the symbol. The only error is want of memory.
+/// The rule of a repeat of the symbol `inner` by that operator: it has the name and the span of the head, and the attributes and
+/// the type of such a repeat. In its alternatives the name that [`hole_name`] answers stands for the symbol, at the symbol's
+/// span. What is desugared is to be rewritten in the symbol. The only error is a failed allocation.
 pub fn repeat_rule(
     alloc: Global,
     head: Head,

@@ -17,7 +17,7 @@ use Rattle.lalrpop_norm_macro_expand_rules.specs.declared.substituted.Bindings.{
 use Rattle.lalrpop_norm_macro_expand_rules.specs.Bound.{bound_kind, AreByNumber}
 use Rattle.lalrpop_norm_macro_expand_rules.specs.Pending.{given_numbered, whole_numbered, shown_numbered}
 
--- ---- places in a list with one more item in front
+-- ---- indices in a list with one more item in front
 
 one_later : {A : Type 0} (p : A → Bool) (k : ℕ) (xs : List A) → position_from p (k + 1) xs ≡ option_map suc (position_from p k xs)
 one_later p k [] = refl
@@ -33,7 +33,7 @@ first_of_more p x xs =
     position_from-zero p (x ∷ xs)
     ∙ ap (cond (p x) (Some 0)) (one_later p 0 xs ∙ ap (option_map suc) (sym (position_from-zero p xs)))
 
--- what stands at a place
+-- what is at an index
 abbrev at_place : {A : Type 0} → List A → Option ℕ → Option A
 at_place xs o = option_and_then (λ i. slice_get xs i) o
 
@@ -65,7 +65,7 @@ given_by_place (a ∷ names) (x ∷ xs) n =
     here true rest = refl
     here false rest = rest ∙ sym (one_further x xs (first_place (map (λ b. b.0) names) n))
 
--- it stands at the name's number
+-- it is at the name's index
 given_at_number : {A : Type 0} (names : List NonterminalString) (table : Names) (xs : List A) (n : List ℕ) → IsNumbering (map (λ a. a.0) names) table →
     given_for names xs n ≡ option_and_then (λ i. slice_get xs i) (number_in_table table n)
 given_at_number names table xs n numbers = given_by_place names xs n ∙ ap (at_place xs) (sym (numbers n))
@@ -85,7 +85,7 @@ argument_given (a ∷ names) (s ∷ ss) n = here (bytes_eq a.0 n) (ap kind_of (s
     here true h k = ap Some h
     here false h k = k
 
--- the symbol that a name is bound to stands at its number
+-- the symbol that a name is bound to is at its index
 pub argument_bound : (b : Bindings) (n : List ℕ) → AreByNumber b → argument_kind b.names.now (parts_view b.symbols.now) n ≡ bound_kind b n
 argument_bound b n numbers =
     argument_given b.names.now b.symbols.now n
@@ -96,7 +96,7 @@ arguments_bound b numbers = fun_ext (λ n. argument_bound b n numbers)
 
 -- ---- environments
 
--- what a name stands for by the names: spans aside, and with what is made into rules replaced
+-- what a name stands for by the names: up to spans, and with what is desugared rewritten
 abbrev pub whole_of : List Whole → List NonterminalString → List Given → List ℕ → Option Kind
 whole_of ws names given n = option_map (λ g. kind_at ws g.number) (given_for names given n)
 

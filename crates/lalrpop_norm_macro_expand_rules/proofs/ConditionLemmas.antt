@@ -1,4 +1,4 @@
--- Conditions of a macro's alternatives: by the written arguments of a call, and by the closed symbols that these are.
+-- Conditions of a macro's alternatives: by the written arguments of a call, and by the ground symbols that these are.
 use Rattle.std.proofs.Common.{◌≡◌, ℕ, List, [], ◌∷◌, Bool, true, false, Option, Some, None, cond, bytes_eq, option_map, refl, ap, ◌∙◌}
 use Rattle.lalrpop_norm_tree_names.specs.declared.names.NonterminalString.{NonterminalString}
 use Rattle.lalrpop_norm_tree_names.specs.declared.names.TerminalString.TheVariants.{Literal, Bare, Error}

@@ -23,7 +23,7 @@ get_left [] x i h = absurd (omega arith)
 get_left (y ∷ xs) x zero h = refl
 get_left (y ∷ xs) x (suc i) h = get_left xs x i (omega arith)
 
--- where a place leads in the longer list
+-- where an index leads in the longer list
 led_to : (place : Option ℕ) (ds : List RuleData) (d : RuleData) (b : Bool) (found : Option RuleData) →
     option_and_then (λ i. slice_get ds i) place ≡ found → ((i : ℕ) → place ≡ Some i → i < length ds) →
     option_and_then (λ i. slice_get (ds ++ d ∷ []) i) (or_else place (cond b (Some (length ds)) None)) ≡ or_else found (cond b (Some d) None)
@@ -63,7 +63,7 @@ named_so (x ∷ ds) n d e = by (bytes_eq x.name.0 n) refl e (named_so ds n d)
     by true is same deeper = let it : x ≡ d = cc in ap (λ (r : RuleData). r.name.0) (sym it) ∙ (bytes_eq-Decides x.name.0 n).0 is
     by false is same deeper = deeper same
 
--- ---- a place noted under a name that has none
+-- ---- an index noted under a name that has none
 
 or_nothing : {A : Type 0} (o : Option A) → o ≡ or_else o None
 or_nothing None = refl

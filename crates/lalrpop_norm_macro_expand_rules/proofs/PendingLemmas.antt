@@ -20,7 +20,7 @@ filling_stays ws vs (Some f) grows h =
     ap (λ (w : List ℕ → Option Kind). Some (w, shown_numbered f.numbers.now f.given.items))
     (fun_ext (λ n. whole_stays ws vs (given_numbered f.numbers.now f.given.items n) grows (λ g e. h n g e)))
 
--- ---- rules and what is given for the names in them, side by side
+-- ---- rules and their environments, side by side
 
 abbrev pub pending_in : List Whole → List (Option Filling) → List GrammarItem → List PendingData
 pending_in ws fs is = filled_items (map (filling_view ws) fs) (map item_view is)

@@ -1,4 +1,4 @@
--- Symbols in which what is made into rules is replaced already: their kinds are what stands in their place.
+-- Symbols that are rewritten already: their kinds are what they are rewritten to.
 use Rattle.std.proofs.Common.{◌≡◌, ℕ, zero, suc, List, [], ◌∷◌, map, Option, Some, None, option_map, option_and_then, slice_get, sym, ap, ◌∙◌, subst}
 use Rattle.lalrpop_norm_tree.specs.declared.symbol.Symbol.{Symbol}
 use Rattle.lalrpop_norm_tree.specs.Symbols.{Kind, Part, Parts, at, kind_view, symbol_view, parts_view}

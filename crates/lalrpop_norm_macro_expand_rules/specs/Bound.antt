@@ -1,17 +1,18 @@
--- The arguments of a macro call by the numbers of their names: the code's own words, of which no public clause of a pass speaks.
+-- The environment of a macro call by the indices of the argument names: internal definitions, which no public contract clause of
+-- a pass mentions.
 use Rattle.std.specs.Prelude.{ℕ, List, map, Option, option_map, option_and_then, slice_get}
 use Rattle.lalrpop_norm_tree.specs.declared.symbol.Symbol.{Symbol}
 use Rattle.lalrpop_norm_tree.specs.Symbols.{Kind, kind_view}
 use Rattle.lalrpop_norm_names.specs.Numbers.{number_in_table, IsNumbering}
 use Rattle.lalrpop_norm_macro_expand_rules.specs.declared.substituted.Bindings.{Bindings}
 
--- the symbol at the number of a name
+-- the symbol at the index of a name
 abbrev pub bound_in : Bindings → List ℕ → Option Symbol
 bound_in b n = option_and_then (λ i. slice_get b.symbols.now i) (number_in_table b.numbers.now n)
 
 abbrev pub bound_kind : Bindings → List ℕ → Option Kind
 bound_kind b n = option_map (λ s. kind_view s.kind) (bound_in b n)
 
--- the numbers are those of the names
+-- the indices are those of the names
 abbrev pub AreByNumber : Bindings → Type 0
 AreByNumber b = IsNumbering (map (λ a. a.0) b.names.now) b.numbers.now

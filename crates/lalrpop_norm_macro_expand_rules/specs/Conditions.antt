@@ -15,7 +15,7 @@ abbrev pub quoted_text : Option Kind → Option (List ℕ)
 quoted_text (Some (terminal (Literal (Quoted t)))) = Some t
 quoted_text _ = None
 
--- of a condition whose left side is a literal of that text, or none: no literal (F33), a pattern that has no reading (F34)
+-- of a condition whose left operand is a literal of that text, or none: no literal (F33), a pattern that has no reading (F34)
 abbrev pub comparison_faults : Condition → Option (List ℕ) → List Fault
 comparison_faults c None = (ConditionArgument, c.span) ∷ []
 comparison_faults c (Some text) = fault_if (lacks_reading c.op c.rhs) (ConditionPattern, c.span)

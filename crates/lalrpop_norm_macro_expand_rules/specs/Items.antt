@@ -1,4 +1,4 @@
--- The items of a round, read one by one: the code's own words, of which no public clause speaks.
+-- The items of a round, read one by one: internal definitions, which no public contract clause mentions.
 use Rattle.std.specs.Prelude.{List, [], ◌∷◌, map, if◌then◌else◌}
 use Rattle.lalrpop_norm_tree.specs.Symbols.{Part}
 use Rattle.lalrpop_norm_tree.specs.Items.{RuleData, ItemData, match_item, extern_item, intern_item, rule_item}
@@ -7,7 +7,7 @@ use Rattle.lalrpop_norm_model.specs.Grammars.{is_nil}
 use Rattle.lalrpop_norm_model.specs.PlainRules.{met_in_rule, replaced_rule}
 use Rattle.lalrpop_norm_nodes.specs.Waits.{parts_replaced}
 
--- an item with its symbols replaced, and what is met in it
+-- an item with its symbols rewritten, and what is reached in it
 abbrev pub replaced_item : ItemData → ItemData
 replaced_item (rule_item r) = rule_item (replaced_rule r)
 replaced_item (match_item m) = match_item m
@@ -22,7 +22,7 @@ met_in_item (extern_item t) = []
 met_in_item (intern_item t) = []
 met_in_item (use_item u) = []
 
--- the same with the parts of each symbol replaced
+-- what is reached in an item, with the parts of each symbol rewritten
 abbrev pub shown_in_item : ItemData → List Part
 shown_in_item i = map parts_replaced (met_in_item i)
 

@@ -6,7 +6,7 @@ use Rattle.lalrpop_norm_tree.specs.Items.{ItemData, match_item, extern_item, int
 abbrev pub is_declared_name : List (List ℕ) → List ℕ → Bool
 is_declared_name names t = list_any (bytes_eq t) names
 
--- ---- the code's own words
+-- ---- internal definitions
 
 -- the names that an item declares
 abbrev pub item_names : ItemData → List (List ℕ)
@@ -16,6 +16,6 @@ item_names (extern_item t) = []
 item_names (intern_item t) = []
 item_names (use_item u) = []
 
--- what is declared, once these are declared too
+-- what is declared, once these are also declared
 abbrev pub with_names : (List ℕ → Bool) → List (List ℕ) → List ℕ → Bool
 with_names declared names t = is_declared_name names t || declared t

@@ -1,4 +1,5 @@
--- Rules that were made, and what is still to be read in them: the code's own words, of which no public clause speaks.
+-- Generated rules, and what is still to be read in them (pending): internal definitions, which no public contract clause
+-- mentions.
 use Rattle.std.specs.Prelude.{◌≡◌, ⊤, ℕ, List, [], ◌∷◌, map, flat_map, Option, Some, None, option_map, option_and_then, slice_get}
 use Rattle.lalrpop_norm_tree.specs.Symbols.{Kind, Part, kind_view}
 use Rattle.lalrpop_norm_tree.specs.Items.{AlternativeData, RuleData, ItemData, rule_item, match_item, extern_item, intern_item, use_item, rule_view}
@@ -14,9 +15,9 @@ use Rattle.lalrpop_norm_nodes.specs.Wholes.{Whole, kind_at}
 use Rattle.lalrpop_norm_macro_expand_rules.specs.declared.pending.Filling.{Filling}
 use Rattle.lalrpop_norm_macro_expand_rules.specs.declared.pending.Pending.{Pending}
 
--- ---- alternatives that are read where names stand for what is given
+-- ---- alternatives that are read in an environment
 
--- what is met in one, and the same with the parts of each symbol replaced
+-- what is reached in one, and the same symbols with their parts rewritten
 abbrev pub met_filled : (List ℕ → Option Kind) → AlternativeData → List Part
 met_filled f a = all_met (all_filled f a.parts)
 
@@ -29,8 +30,7 @@ read_filled f a = record a { parts = all_replaced (all_filled f a.parts) }
 
 -- ---- rules
 
--- an item with nothing left to be read, or a rule in which names stand for what is given: as it is, spans aside, and with what is made
--- into rules replaced
+-- an item with nothing left to be read, or a rule in an environment: substituted, up to spans, and rewritten
 pub data PendingData : Type 0 where
   finished_item : ItemData → PendingData
   unread_rule : RuleData → (List ℕ → Option Kind) → (List ℕ → Option Kind) → PendingData
@@ -77,7 +77,7 @@ filling_of (unread_rule r whole shown) = Some (whole, shown)
 
 -- ---- what names stand for
 
--- what is given at the number of a name, and what the name stands for there: spans aside, and with what is made into rules replaced
+-- what is bound at the index of a name, and what the name stands for there: up to spans, and rewritten
 abbrev pub given_numbered : Names → List Given → List ℕ → Option Given
 given_numbered table given n = option_and_then (λ i. slice_get given i) (number_in_table table n)
 
@@ -97,7 +97,7 @@ filled_rule ws f r = unread_rule r (whole_numbered ws f.numbers.now f.given.item
 abbrev pub pending_view : List Whole → Pending → PendingData
 pending_view ws p = filled_item (filling_view ws p.filling) (rule_item (rule_view p.rule))
 
--- what is given stands for symbols
+-- the environment stands for symbols
 abbrev pub IsFilling : List Whole → Filling → Type 0
 IsFilling ws f = (n : List ℕ) (g : Given) → given_numbered f.numbers.now f.given.items n ≡ Some g → IsGiven ws g
 

@@ -41,7 +41,7 @@ pub fn instance_type(
     ty: &Option<TypeRef>,
 ) -> Result<Option<TypeRef>, NoMemory>
     requires numbers { AreByNumber bindings.now }
-    // What is made into rules is replaced in the arguments.
+    // What is desugared is rewritten in the arguments.
     requires replaced { all_replaced (parts_view bindings.now.symbols.now) ≡ parts_view bindings.now.symbols.now }
     ensures { IfOk result (λ t. option_map type_view t
         ≡ option_map (type_substituted (argument_kind bindings.now.names.now (parts_view bindings.now.symbols.now))) (option_map type_view ty.now)) }

@@ -52,7 +52,7 @@ fn literal_bound<'a>(bindings: &Bindings<'a>, name: &NonterminalString) -> Optio
 
 /// What a condition says of a literal.
 ///
-/// Errors: F34 (`ConditionPattern`) where a pattern is asked for and has no reading; `Memory`.
+/// Errors: F34 (`ConditionPattern`) if a pattern is asked for and has no reading; `Memory`.
 fn says(alloc: Global, condition: &Condition, literal: &Atom) -> NormResult<bool>
     ensures { RefusesOr result (fault_if (lacks_reading condition.now.op condition.now.rhs) (ConditionPattern, condition.now.span))
         (λ b. b ≡ comparison condition.now.op literal.now condition.now.rhs) }
@@ -73,7 +73,7 @@ fn says(alloc: Global, condition: &Condition, literal: &Atom) -> NormResult<bool
 
 /// Whether an alternative's condition is true or absent.
 ///
-/// Errors: F33 (`ConditionArgument`) where its left side is bound to no quoted literal; F34 (`ConditionPattern`); `Memory`.
+/// Errors: F33 (`ConditionArgument`) if its left operand is bound to no quoted literal; F34 (`ConditionPattern`); `Memory`.
 pub fn is_kept(
     alloc: Global,
     bindings: &Bindings,

@@ -26,7 +26,7 @@ fn tupled(tuple: &Tuple, symbol: Box<Symbol>) -> Result<SymbolKind, NoMemory>
     Ok(SymbolKind::Tuple(tuple.clone()?, symbol))
 }
 
-// This goes as deep as wrapped symbols stand in one another; what the frames need is kept in functions that are not inlined.
+// The recursion is as deep as wrapped symbols are nested; what the frames need is kept in functions that are not inlined.
 
 /// The symbol, its identifiers as names.
 #[cycle(copied)]

@@ -1,4 +1,4 @@
-//! The rules of groups and lookarounds.
+//! The rules of groups and location symbols.
 ghost use Rattle.std.specs.Prelude.{◌≡◌, IfOk, map};
 ghost use Rattle.lalrpop_norm_tree.specs.Symbols.{Kind, group, parts_view};
 ghost use Rattle.lalrpop_norm_tree.specs.SymbolTexts.{kind_text};
@@ -26,14 +26,15 @@ fn bare_or_tuple(mut types: Vec<TypeRef>) -> TypeRef
     TypeRef::Tuple(types)
 }
 
-/// The rule of a group of these symbols: inline, with one alternative that gives their values. The only error is want of memory.
+/// The rule of a group of these symbols: inline, with one alternative that gives their values. The only error is a failed
+/// allocation.
 pub fn group_rule(
     alloc: Global,
     head: Head,
     symbols: Vec<Symbol>,
 ) -> Result<NonterminalData, NoMemory>
     requires name { head.name ≡ kind_text (group (parts_view symbols.items)) }
-    // What is made into rules is replaced in them.
+    // What is desugared is rewritten in them.
     requires replaced { all_replaced (parts_view symbols.items) ≡ parts_view symbols.items }
     ensures { IfOk result (λ r. rule_view r ≡ group_rule head.span (parts_view symbols.items)) }
 {
@@ -50,7 +51,7 @@ pub fn group_rule(
     ))
 }
 
-/// The rule of a lookaround: inline, with one empty alternative that has this action. The only error is want of memory.
+/// The rule of a location symbol: inline, with one empty alternative that has this action. The only error is a failed allocation.
 pub fn location_rule(
     alloc: Global,
     head: Head,

@@ -1,4 +1,4 @@
-//! The items of a grammar, whose symbols are replaced by the nonterminals of what they are made into.
+//! The items of a grammar, whose symbols are rewritten to the nonterminals that they are desugared to.
 ghost use Rattle.std.specs.Prelude.{◌≡◌, IfOk, OnOk, map, flat_map};
 ghost use Rattle.lalrpop_norm_tree.specs.Items.{item_view, rule_view};
 ghost use Rattle.lalrpop_norm_faults.specs.Faults.{Refuses};
@@ -15,7 +15,7 @@ use lalrpop_norm_nodes::table::Table;
 use lalrpop_norm_tree::grammar::parse_tree::{GrammarItem, NonterminalData, Symbol, SymbolKind};
 use std::alloc::Global;
 
-/// Reads a rule of the grammar: no name in it stands for anything given.
+/// Reads a rule of the grammar, in the empty environment.
 fn replace_rule(alloc: Global, rule: &mut NonterminalData, table: &mut Table) -> NormResult<()>
     requires table { IsNodeTable table.old }
     requires counted { IsCounted table.old }
@@ -53,7 +53,7 @@ fn replace_item(alloc: Global, item: &mut GrammarItem, table: &mut Table) -> Nor
     }
 }
 
-/// Meets the symbols of the items in their order, and replaces each that is made into a rule.
+/// Reaches the symbols of the items in order, and rewrites each that is desugared.
 fn replace_items(
     alloc: Global,
     items: &mut [GrammarItem],
@@ -76,7 +76,7 @@ fn replace_items(
     Ok(())
 }
 
-/// How many symbols at the top of its alternatives may be made into rules.
+/// How many symbols at the top of its alternatives may be desugared.
 pub(crate) fn room_for(item: Option<&GrammarItem>) -> usize {
     let mut room = 0usize;
     if let Some(GrammarItem::Nonterminal(rule)) = item {
@@ -99,8 +99,8 @@ fn room_of(symbols: &[Symbol]) -> usize {
     room
 }
 
-/// Reads the items of a grammar: meets and replaces their symbols. `room` becomes greater by about how many of those behind the first
-/// item may be made into rules: a hint for a list, of which no clause speaks.
+/// Reads the items of a grammar: reaches and rewrites their symbols. `room` grows by about how many of those behind the first
+/// item may be desugared: a hint for a list, which no contract clause mentions.
 ///
 /// Errors: F37 (`SharedName`) at a symbol whose text is that of another symbol or a declared name; `Memory`.
 pub fn read_items(

@@ -1,5 +1,5 @@
-//! What an expansion makes of a round: its items, read with their symbols met and replaced, and the parts of the rules that it
-//! makes of the symbols that were met.
+//! What an expansion makes of a round: its items, read with their symbols reached and rewritten, and the parts of the rules that
+//! it generates for the reached symbols.
 #![tactic(auto)]
 
 pub mod alternatives;

@@ -22,20 +22,20 @@ use std::collections::BTreeMap;
 pub struct NumberedMacro {
     /// Its definition.
     pub definition: NonterminalData,
-    /// The number of the name of each argument: the place at which it stands first among them.
+    /// The index of the name of each argument: its first index among them.
     pub numbers: Names,
 }
 
 /// Macros in their order.
 #[derive(Drop)]
 pub struct Macros {
-    /// The place of the first macro of each name in `rules`.
+    /// The index of the first macro of each name in `rules`.
     pub places: BTreeMap<Atom, usize>,
     /// The macros, in their order.
     pub rules: Vec<NumberedMacro>,
 }
 
-/// Notes a place under a name that has none yet.
+/// Notes an index under a name that has none yet.
 fn note(places: &mut BTreeMap<Atom, usize>, name: &Atom, place: usize) -> Result<(), NoMemory>
     ensures { OnOk result ((n : List ℕ) → get (slice_cmp nat_cmp) places.new n
         ≡ or_else (get (slice_cmp nat_cmp) places.old n) (if bytes_eq name.now n then Some place else None)) }

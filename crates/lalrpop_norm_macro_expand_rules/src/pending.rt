@@ -1,4 +1,4 @@
-//! Rules that were made, which the next round reads.
+//! Generated rules, which the next round reads (the pending ones).
 ghost use Rattle.std.specs.Prelude.{◌≡◌, OnOk, map, length, flat_map};
 ghost use Rattle.lalrpop_norm_tree.specs.Items.{item_view, rule_item, rule_view};
 ghost use Rattle.lalrpop_norm_faults.specs.Faults.{Refuses};
@@ -15,22 +15,22 @@ use lalrpop_norm_nodes::table::Table;
 use lalrpop_norm_tree::grammar::parse_tree::{GrammarItem, NonterminalData};
 use std::alloc::Global;
 
-/// What is given for the names in a rule that was made.
+/// The environment of a generated rule: what the names in it are bound to.
 #[derive(Drop)]
 pub struct Filling<'m> {
-    /// The number of each name: the place at which it stands first among them.
+    /// The index of each name: its first index among them.
     pub numbers: &'m Names,
-    /// What is given for them, in their order.
+    /// What they are bound to, in order.
     pub given: Vec<Given>,
 }
 
-/// A rule that was made.
+/// A generated rule.
 #[derive(Drop)]
 pub struct Pending<'m> {
     /// The rule.
     pub rule: NonterminalData,
-    /// What is given where the rule is still to be read: its symbols are as they are written. Where there is nothing, what is made into
-    /// rules in it was met, and is replaced.
+    /// The environment, if the rule is still to be read: its symbols are as they are written. If there is none, what is desugared
+    /// in it was reached, and is rewritten.
     pub filling: Option<Filling<'m>>,
 }
 
@@ -85,9 +85,9 @@ fn read_item(
     }
 }
 
-/// Reads the rules that a round made: meets their symbols, and replaces each that is made into a rule. The fillings are those of the
-/// rules, in their order. `room` becomes greater by about how many symbols of the rules behind the first may be made into rules: a hint
-/// for a list, of which no clause speaks.
+/// Reads the rules that a round generated: reaches their symbols, and rewrites each that is desugared. The environments
+/// (`fillings`) are those of the rules, in order. `room` grows by about how many symbols of the rules behind the first may be
+/// desugared: a hint for a list, which no contract clause mentions.
 ///
 /// Errors: F37 (`SharedName`) at a symbol whose text is that of another symbol or a declared name; `Memory`.
 pub fn read_pending(

@@ -1,4 +1,4 @@
-//! Alternatives that are read where names stand for what is given.
+//! Alternatives that are read in an environment.
 ghost use Rattle.std.specs.Prelude.{◌≡◌, OnOk, map, flat_map};
 ghost use Rattle.lalrpop_norm_tree.specs.Items.{alternative_view};
 ghost use Rattle.lalrpop_norm_tree.specs.Symbols.{parts_view};
@@ -18,7 +18,7 @@ use lalrpop_norm_nodes::table::Table;
 use lalrpop_norm_tree::grammar::parse_tree::{Alternative, Symbol};
 use std::alloc::Global;
 
-/// Reads symbols one after another, and replaces them where they stand. Unlike those of a group or a call they are no node together.
+/// Reads symbols one after another, and rewrites them in place. Unlike those of a group or a call they are no node together.
 fn read_symbols(
     alloc: Global,
     environment: &Environment,
@@ -58,7 +58,7 @@ fn read_alternative(
     read_symbols(alloc, environment, &mut alternative.expr.symbols, table)
 }
 
-/// Reads alternatives in their order, and replaces their symbols where they stand.
+/// Reads alternatives in order, and rewrites their symbols in place.
 pub(crate) fn read_alternatives(
     alloc: Global,
     environment: &Environment,

@@ -1,4 +1,4 @@
-//! Parts that made rules have in common.
+//! Parts that generated rules have in common.
 ghost use Rattle.std.specs.Prelude.{◌≡◌, IfOk, map, option_map};
 ghost use Rattle.lalrpop_norm_tree_parts.specs.Attributes.{attributes_view};
 ghost use Rattle.lalrpop_norm_tree.specs.Symbols.{repeated, kind_view, symbol_view, parts_view};
@@ -13,16 +13,16 @@ use lalrpop_norm_tree::grammar::parse_tree::{
 };
 use std::alloc::Global;
 
-/// The head of a rule that is made.
+/// The head of a generated rule.
 #[derive(Drop)]
 pub struct Head {
     /// Its name, the text of its symbol.
     pub name: Atom,
-    /// Where its symbol was first met.
+    /// The span at which its symbol was first reached.
     pub span: Span,
 }
 
-/// The attribute `inline`, at that place.
+/// The attribute `inline`, at that span.
 pub fn inline_at(alloc: Global, span: Span) -> Result<Vec<Attribute>, NoMemory>
     ensures { IfOk result (λ v. attributes_view v.items ≡ inline_at span) }
 {
@@ -34,7 +34,7 @@ pub fn inline_at(alloc: Global, span: Span) -> Result<Vec<Attribute>, NoMemory>
     Ok(vec![in alloc; inline]?)
 }
 
-/// An alternative with that code.
+/// An alternative with that action code.
 pub fn coded(
     alloc: Global,
     span: Span,

@@ -27,7 +27,7 @@ fn types_of(alloc: Global, sources: &[(usize, &Symbol)]) -> Result<Vec<TypeRef>,
     Ok(types)
 }
 
-/// The types of the chosen symbols, if there are any, else of all.
+/// The types of the selected symbols, if there are any, else of all.
 fn source_types(alloc: Global, symbols: &[Symbol]) -> Result<Vec<TypeRef>, NoMemory>
     requires { all_replaced (parts_view symbols.now) ≡ parts_view symbols.now }
     ensures { IfOk result (λ ts. map type_view ts.items ≡ map type_of_kind (group_sources (parts_view symbols.now))) }
@@ -37,14 +37,14 @@ fn source_types(alloc: Global, symbols: &[Symbol]) -> Result<Vec<TypeRef>, NoMem
     Ok(types)
 }
 
-/// The code that gives one value, or any other number of them as a tuple.
+/// The action code that gives one value, or any other number of them as a tuple.
 fn types_code(types: &[TypeRef]) -> &'static str
     ensures { result.now ≡ types_code (map type_view types.now) }
 {
     if types.len() == 1 { "<>" } else { "(<>)" }
 }
 
-/// The types of the values that a group of these symbols gives, and the code that gives them.
+/// The types of the values that a group of these symbols gives, and the action code that gives them.
 pub(crate) fn group_values(
     alloc: Global,
     symbols: &[Symbol],

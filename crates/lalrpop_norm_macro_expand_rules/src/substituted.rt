@@ -1,4 +1,4 @@
-//! The arguments of a macro call, and the types of the macro's definition with the arguments put into them.
+//! The arguments of a macro call, and the types of the macro's definition with the arguments substituted.
 ghost use Rattle.std.specs.Prelude.{◌≡◌, ◌∷◌, [], IfOk, option_map};
 ghost use Rattle.lalrpop_norm_tree_parts.specs.Accessors.{path_of};
 ghost use Rattle.lalrpop_norm_tree.specs.Symbols.{kind_view, parts_view};
@@ -14,18 +14,18 @@ use lalrpop_norm_tree::grammar::parse_tree::{
 use lalrpop_norm_tree_parts::names::copy::copy_type_parameters;
 use std::alloc::Global;
 
-/// The arguments of a macro's definition, and the symbols that a call gives for them.
+/// The environment of a macro call: the arguments of the macro's definition, and the symbols that the call binds them to.
 #[derive(Clone, Copy)]
 pub struct Bindings<'a> {
-    /// The names of the arguments: clauses speak of them, and code goes by their numbers.
+    /// The names of the arguments: contract clauses mention them, and code goes by their indices.
     pub names: &'a [NonterminalString],
-    /// The numbers of these names.
+    /// The indices of these names.
     pub numbers: &'a Names,
-    /// What is given for them, in their order.
+    /// What they are bound to, in order.
     pub symbols: &'a [Symbol],
 }
 
-/// The symbol at the number of a name, if it is that of an argument.
+/// The symbol at the index of a name, if it is that of an argument.
 fn symbol_bound<'a>(bindings: &Bindings<'a>, name: &NonterminalString) -> Option<&'a Symbol>
     ensures { option_map (λ s. s.now) result ≡ bound_in bindings.now name.now.0 }
 {
@@ -73,7 +73,7 @@ fn path_of_name(alloc: Global, name: Atom) -> Result<TypeRef, NoMemory>
     Ok(TypeRef::Nominal { path, types })
 }
 
-/// A type with what stands at the numbers of names substituted for them.
+/// A type with what is at the indices of names substituted for them.
 #[cycle(type_substituted)]
 fn type_substituted(
     alloc: Global,

@@ -21,7 +21,7 @@ use Rattle.lalrpop_norm_model.specs.TuplePatterns.{rule_misfits, pattern_misfits
 use Rattle.lalrpop_norm_model.specs.InferenceFaults.{is_undeclared, undeclared, lacking, inferred_table, untyped_rules, is_other, clause_disagrees, disagreeing_in, disagreeing, inference_faults}
 use Rattle.lalrpop_norm_model.specs.CheckedTokens.{with_tokens}
 
--- two grammars that inference cannot tell apart
+-- two grammars that inference cannot distinguish
 pub record LooksSame (g h : GrammarData) : Type 0 where
   pub rules : all_rules g ≡ all_rules h
   pub terminals : (t : TerminalString) → terminal_type g t ≡ terminal_type h t

@@ -1,4 +1,4 @@
--- The bounds of own occurrences by the side, and the conditions of macros.
+-- The bounds of recursive occurrences by the associativity, and the conditions of macros.
 use Rattle.std.proofs.Common.{◌≡◌, ℕ, zero, suc, ◌+◌, List, [], ◌∷◌, ◌++◌, map, replicate, Option, Some, None, Bool, true, false, ◌&&◌, refl, sym, ap, ap₂, ◌∙◌, arith}
 use Rattle.std.specs.Prelude.{not, bytes_eq, if◌then◌else◌}
 use Rattle.std.proofs.lemmas.Bool.{and_parts}
@@ -20,9 +20,9 @@ use Rattle.lalrpop_norm_model.specs.Bounds.{bounds_to, all_bounds_to, bounds_by,
 use Rattle.lalrpop_norm_model.specs.Laws.{BoundsAreBySide, ConditionsDecide}
 use Rattle.lalrpop_norm_model.proofs.MeaningLemmas.{instance_of}
 
--- ---- occurrences by what stands before and after them
+-- ---- occurrences by what is before and after them
 
--- f of each of so many, where some stand before the first and some after the last
+-- f of each of that many, where some are before the first and some after the last
 abbrev spread : {A : Type 0} → (ℕ → ℕ → A) → ℕ → ℕ → ℕ → List A
 spread f before after zero = []
 spread f before after (suc k) = f before (k + after) ∷ spread f (suc before) after k
@@ -86,7 +86,7 @@ module _ (rs : List WrittenRule) (r : WrittenRule) (a : Leveled) (f : ℕ → �
         ap₂ ◌++◌ (part_bounds before (after + count_parts own ps) p both.0) (parts_bounds (before + count_part own p) after ps both.1)
         ∙ spread_both f before after (count_part own p) (count_parts own ps)
 
--- ---- by side
+-- ---- by associativity
 
 module _ (c p : ℕ) where
   all_alike : (side : Side) (b : ℕ) → ((before after : ℕ) → bound_at side c p before after ≡ b) → (before after k : ℕ) →
@@ -121,7 +121,7 @@ bounds_are_by_side rs r a previous e below scoped =
         ap (λ (b : Bool). if b then Some (own_bound a.side a.level (previous_level r.places a.level) before after) else None) e
         ∙ ap (λ o. Some (own_bound a.side a.level o before after)) below
 
--- on every side there is no level but its own
+-- with `all` there is no level but its own
 pub bounds_on_every_side : (rs : List WrittenRule) (r : WrittenRule) (a : Leveled) → r.has_levels ≡ true → a.side ≡ every → are_scoped rs r.args a.alternative.parts ≡ true →
     all_bounds_to r.name (read_all (rule_reader rs r a) a.alternative.parts)
     ≡ map Some (replicate (count_parts (λ n. bytes_eq n r.name) a.alternative.parts) a.level)

@@ -1,4 +1,4 @@
--- Closed symbols of small written ones, and their texts.
+-- Ground symbols of small written ones, and their texts.
 use Rattle.std.proofs.Common.{◌≡◌, [], ◌∷◌, refl, arith}
 use Rattle.std.specs.Prelude.{true, false, Some, None, codes, bytes_eq, if◌then◌else◌}
 use Rattle.std.specs.Fmt.{digits}

@@ -41,7 +41,7 @@ use Rattle.lalrpop_norm_model.proofs.LevelLemmas.{in_map, of_map}
 use Rattle.lalrpop_norm_model.proofs.SameTerminalLemmas.{terminal_itself, passes_any, any_passes, listed_same, same_listed, terminals_same}
 use Rattle.std.proofs.lemmas.Bool.{and_parts}
 
--- ---- terminals used, and where they stand
+-- ---- terminals used, and their spans
 
 mutual
   place_in_kind : (s : Span) (t : TerminalString) (k : Kind) → In t (terminals_in_kind k) → (x : Span) × In {A = TerminalString × Span} (t, x) (places_in_kind s k)
@@ -72,7 +72,7 @@ place_in_all t (part_and p ps) i = elim (in_cases t (terminals_in p) (terminals_
 abbrev places_in_rule : RuleData → List (TerminalString × Span)
 places_in_rule r = flat_map (λ (a : AlternativeData). places_in_parts a.parts) r.alternatives
 
--- each terminal used stands somewhere
+-- each terminal used has a span
 place_used : (g : GrammarData) (t : TerminalString) → In t (terminals_used g) → (x : Span) × In {A = TerminalString × Span} (t, x) (places_used g)
 place_used g t i =
     let (r, j, k) = of_flat terminals_in_rule t (all_rules g) i in
@@ -80,7 +80,7 @@ place_used g t i =
     let (x, n) = place_in_all t a.parts m in
     (x, in_flat places_in_rule (t, x) r (all_rules g) j (in_flat (λ (b : AlternativeData). places_in_parts b.parts) (t, x) a r.alternatives l n))
 
--- the error terminal is not used by plain symbols
+-- the error terminal is not used by symbols of an expanded grammar
 mutual
   plain_kind_used : (k : Kind) → is_plain_kind k ≡ true → In Error (terminals_in_kind k) → ⊥
   plain_kind_used (terminal (Literal l)) h (inl e) = cc e

@@ -22,7 +22,7 @@ faults_by prefix types rules =
     ++ flat_map (λ (e : ℕ × AlternativeData). code_faults e.1 ++ action_number_faults e.0 e.1.span)
     (enumerate_from (length public) (flat_map (λ (r : RuleData). r.alternatives) rules))
 
--- what types and lowering tell of two grammars is the same
+-- what types and lowering see of two grammars is the same
 abbrev TellTheSame : GrammarData → GrammarData → Type 0
 TellTheSame h e =
     (inference_faults h ≡ inference_faults e) × (inferred_table h ≡ inferred_table e)

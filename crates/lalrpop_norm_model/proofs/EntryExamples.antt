@@ -22,13 +22,13 @@ entry p l m = record { precedence = p; match_literal = l; user_name = m }
 abbrev pub place : ℕ → Span
 place k = record { 0 = k; 1 = k }
 
--- a terminal that is chosen, at a place of its own
+-- a terminal that is selected, at a span of its own
 abbrev pub use_at : ℕ → TerminalString → Kind
 use_at k t = chosen (at (place k) (terminal t))
 
 -- ---- `match { r"(?i)BEGIN" => "BEGIN", "+" => "+" } else { _ }`, where `r"[a-zA-Z]+"` is used too
 
--- the match items at the places 1 to 3, the symbols at 4 to 6
+-- the match items at the spans 1 to 3, the symbols at 4 to 6
 abbrev pub words : GrammarData
 words = of_rules (match_tokens ((Mapped (Regex (codes "(?i)BEGIN")) (Terminal (quoted (codes "BEGIN"))) (place 1)
     ∷ Mapped (Quoted (codes "+")) (Terminal (quoted (codes "+"))) (place 2) ∷ []) ∷ (CatchAll (place 3) ∷ []) ∷ []) ∷ [])
@@ -75,7 +75,7 @@ words_are = record { all = λ e. (words_stand e, λ h. words_given h); rising = 
 
 -- ---- `match { "a" => "b" } else { _ }`, where `"a"` is used: it is no user name, so it has an entry of its own
 
--- the match item at the place 1, the symbol at 4 and once more at 5
+-- the match item at the span 1, the symbol at 4 and once more at 5
 abbrev pub renamed : GrammarData
 renamed = of_rules (match_tokens ((Mapped (Quoted (codes "a")) (Terminal (quoted (codes "b"))) (place 1) ∷ []) ∷ (CatchAll nowhere ∷ []) ∷ []) ∷ [])
     (a_rule (codes "S") None (plain (use_at 4 (quoted (codes "a")) ∷ []) ∷ plain (use_at 5 (quoted (codes "a")) ∷ []) ∷ []) ∷ [])

@@ -1,4 +1,4 @@
--- The order of entries is total, and entries that it does not tell apart are one.
+-- The order of entries is total, and entries that it does not distinguish are one.
 use Rattle.std.proofs.Common.{◌≡◌, ◌∙◌, ℕ, List, [], ◌∷◌, refl, sym, ap, nat_cmp}
 use Rattle.std.specs.declared.cmp.Ordering.{Ordering}
 use Rattle.std.specs.declared.cmp.Ordering.TheVariants.{Less, Equal, Greater}
@@ -19,7 +19,7 @@ use Rattle.lalrpop_norm_model.specs.Entries.{mapping_cmp, entry_cmp}
 
 -- ---- total
 
--- literals, terminals and mappings stand in the order of these texts
+-- literals, terminals and mappings are in the order of these texts
 literal_rank : TerminalLiteral → List ℕ
 literal_rank (Quoted a) = 0 ∷ a
 literal_rank (Regex a) = 1 ∷ a

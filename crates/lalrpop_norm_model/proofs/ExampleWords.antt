@@ -16,13 +16,13 @@ use Rattle.lalrpop_norm_tree.specs.Items.{AlternativeData, RuleData, ConversionD
 use Rattle.lalrpop_norm_model.specs.Features.{Features}
 use Rattle.lalrpop_norm_model.specs.Grammars.{ConditionValue}
 
--- ---- places and names
+-- ---- spans and names
 
 -- from one byte offset up to another, half open
 abbrev pub span : ℕ → ℕ → Span
 span a b = record { 0 = a; 1 = b }
 
--- for what has no place that matters
+-- for what has no span that matters
 abbrev pub nowhere : Span
 nowhere = span 0 0
 
@@ -93,7 +93,7 @@ optional p = repeated Question p
 abbrev pub name_before : List ℕ → Part → Kind
 name_before n p = named (record { mutable = false; name = n }) p
 
--- a symbol whose place does not matter, and several
+-- a symbol whose span does not matter, and several
 abbrev pub here : Kind → Part
 here k = at nowhere k
 

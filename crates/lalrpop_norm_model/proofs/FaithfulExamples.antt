@@ -1,5 +1,5 @@
--- A small grammar whose derivation trees by plain rules are those of its written rules; and what a made rule holds only apart
--- from names.
+-- A small grammar whose derivation trees in the expanded grammar are those of its written rules; and what a generated rule holds
+-- only apart from names.
 use Rattle.std.proofs.Common.{◌≡◌, inl, inr, List, [], ◌∷◌, map, Option, Some, None, Bool, true, false, not, ◌&&◌, refl, ap, ◌∙◌}
 use Rattle.std.specs.Prelude.{codes, bytes_eq}
 use Rattle.std.proofs.lemmas.Bool.{and_parts}
@@ -80,7 +80,7 @@ settled_by g e d s = record {
   scoped = (scoped_as_written None g).2.0 (each_scoped (flat_rules g) (flat_rules g) s);
 }
 
--- ---- a macro, a repeat and a lookaround
+-- ---- a macro, a repeat and a location symbol
 -- M<T> = @L T; S = <x:M<A*>>; A = "a";
 
 abbrev small : GrammarData
@@ -95,7 +95,7 @@ small_settled = settled_by small refl refl refl
 small_whole : IsEnded example_value small 2
 small_whole = refl
 
--- its plain rules are those of S, A, M<A*>, A*, A+ and @L
+-- the rules of its expanded grammar are those of S, A, M<A*>, A*, A+ and @L
 small_distinct : IsDistinct (rule_names (plain_grammar example_value small 2))
 small_distinct = names_apart (rule_names (plain_grammar example_value small 2)) refl
 

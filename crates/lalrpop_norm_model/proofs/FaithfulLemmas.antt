@@ -1,4 +1,4 @@
--- The derivation trees of the plain rules stand one to one with the written trees.
+-- The derivation trees of the rules of the expanded grammar correspond one to one with the written trees.
 use Rattle.std.proofs.Common.{◌≡◌, inl, inr, ℕ, List, [], ◌∷◌, ◌++◌, map, None, Bool, true, false, refl, sym, ap, ap₂, ◌∙◌, subst}
 use Rattle.std.specs.Prelude.{flat_map, filter, if◌then◌else◌}
 use Rattle.lalrpop_norm_tree.specs.Items.{RuleData, ItemData, GrammarData, match_item, extern_item, intern_item, rule_item, use_item}
@@ -25,7 +25,7 @@ use Rattle.lalrpop_norm_model.proofs.MadeReadLemmas.{rules_are_read}
 use Rattle.lalrpop_norm_model.proofs.RoundReadLemmas.{rounds_are_read}
 use Rattle.lalrpop_norm_model.proofs.PlainReadLemmas.{AllFit, plain_fit, plain_rules_are_read}
 
--- ---- the grammar of plain rules
+-- ---- the expanded grammar
 
 made_items : (more : List RuleData) → flat_map rule_of_item (map (λ r. rule_item (replaced_rule r)) more) ≡ map replaced_rule more
 made_items [] = refl

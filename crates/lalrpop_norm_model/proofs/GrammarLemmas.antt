@@ -56,7 +56,7 @@ of_flat f y (x ∷ xs) h = elim (in_cases y (f x) (flat_map f xs) h) [
   | inr i ↦ (let (z, j, k) = of_flat f y xs i in (z, inr j, k))
 ]
 
--- what is the same of two things of a list in which it stands once are the same thing
+-- two things of a list that agree in what is there once are the same thing
 pub same_by : {A B : Type 0} (f : A → B) (xs : List A) (x y : A) → IsDistinct (map f xs) → In x xs → In y xs → f x ≡ f y → x ≡ y
 same_by f [] x y d i j e = absurd i
 same_by f (z ∷ xs) x y d (inl i) (inl j) e = i ∙ sym j

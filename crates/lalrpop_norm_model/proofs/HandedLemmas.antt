@@ -1,4 +1,4 @@
--- Levels and sides are handed on from place to place, and disabled alternatives are no matter for them.
+-- Levels and associativities are inherited from index to index, and disabled alternatives do not matter for them.
 use Rattle.std.proofs.Common.{◌≡◌, ℕ, suc, List, [], ◌∷◌, ◌++◌, map, take, length, Option, Some, None, Bool, true, false, refl, sym, ap, ap₂, ◌∙◌, append_assoc}
 use Rattle.std.specs.Prelude.{option_map, unwrap_or, is_some, if◌then◌else◌}
 use Rattle.std.proofs.lemmas.List.{map-append}
@@ -22,7 +22,7 @@ module _ (p : Option AlternativeData) where
   level_behind : (qs : PlacedAlternatives) → last_stated (map level_stated (qs ++ p ∷ [])) ≡ level_after (last_stated (map level_stated qs)) p
   level_behind qs = ap last_stated (map-append level_stated qs (p ∷ [])) ∙ last_behind (map level_stated qs) (level_stated p)
 
-  -- what counts for sides, once p stands behind
+  -- what counts for associativities, once p is behind
   abbrev counting : Bool → PlacedAlternatives → PlacedAlternatives
   counting b qs = if b then p ∷ [] else since_level qs ++ p ∷ []
 
@@ -69,7 +69,7 @@ longer : {A : Type 0} (qs : List A) (p : A) → length (qs ++ p ∷ []) ≡ suc 
 longer [] p = refl
 longer (q ∷ qs) p = ap suc (longer qs p)
 
--- the places after some others
+-- the indices after some others
 handed : (qs ps : PlacedAlternatives) →
     map_numbered (leveled_at (qs ++ ps)) (length qs) ps ≡ handed_on (last_stated (map level_stated qs)) (last_stated (map side_stated (since_level qs))) ps
 handed qs [] = refl

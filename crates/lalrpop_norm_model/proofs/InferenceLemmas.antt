@@ -1,4 +1,4 @@
--- Inference refuses exactly the grammars in which some rule has no type or two.
+-- Inference rejects exactly the grammars in which some rule has no type or two.
 use Rattle.std.proofs.Common.{◌≡◌, ◌⊎◌, ◌↔◌, Bool, true, false, List, [], ◌∷◌, ◌++◌, filter, filter_map, flat_map, Option, Some, None, IsSome, is_none, cond, inl, inr, refl, sym, ap, subst, ◌∙◌}
 use Rattle.std.specs.List.{cons_option}
 use Rattle.lalrpop_norm_tree.specs.Items.{AlternativeData, RuleData, GrammarData}

@@ -1,4 +1,4 @@
--- Where inference and lowering refuse small grammars, with the spans of their texts, found by hand.
+-- The errors of inference and lowering in small grammars, with the spans of their texts, found by hand.
 use Rattle.std.proofs.Common.{◌≡◌, ℕ, List, [], ◌∷◌, Option, Some, None, false, codes, refl, ap, arith}
 use Rattle.lalrpop_norm_tree_names.specs.declared.names.Span.{Span}
 use Rattle.lalrpop_norm_tree.specs.Items.{Action, user_code, fallible_code, lookahead_code, AlternativeData, RuleData, GrammarData, everywhere}
@@ -44,14 +44,14 @@ a_and_b = pair (one (codes "a")) (one (codes "b"))
 abbrev under : Span → ArgumentPatterns → Part → Part
 under s ns p = at s (tupled ns p)
 
--- ---- rules that nothing gives a type
+-- ---- rules for which no type is derivable
 
 -- `A = {};`
 without_alternatives : inference_faults (of_rules (tok_tokens [] ∷ []) (rule_at (span 35 36) (codes "A") None [] ∷ []))
     ≡ (NoAlternatives, span 35 36) ∷ (NotGrounded, span 35 36) ∷ []
 without_alternatives = refl
 
--- `A = { => 1 };`, which is told at the alternative
+-- `A = { => 1 };`, which is reported at the alternative
 abbrev coded_alone : GrammarData
 coded_alone = of_rules (tok_tokens [] ∷ []) (rule_at (span 35 36) (codes "A") None (alternative_at (span 41 46) (written (codes "1")) [] ∷ []) ∷ [])
 
@@ -146,7 +146,7 @@ fitting : inference_faults (of_rules (tok_tokens abc ∷ [])
     ≡ []
 fitting = refl
 
--- `(a, (b, c))` over the type of `"x" B`, where `B: u8`: what is nested stands over no tuple type
+-- `(a, (b, c))` over the type of `"x" B`, where `B: u8`: what is nested is over no tuple type
 nested_over_no_tuple : inference_faults (of_rules (tok_tokens (codes "x" ∷ []) ∷ [])
     (rule_at (span 1 2) (codes "A") unit (alternative_at (span 3 9) (written (codes "()")) (under (span 4 8) (pair (one (codes "a")) (several (pair (one (codes "b")) (one (codes "c"))))) (name_at (span 6 7) (codes "C")) ∷ []) ∷ [])
     ∷ rule_at (span 10 11) (codes "C") None (alternative_at (span 12 15) None (literal_at (span 12 13) (codes "x") ∷ name_at (span 14 15) (codes "B") ∷ []) ∷ [])

@@ -1,4 +1,4 @@
--- Numbers and sides that attributes state, the level and the side of each place, and the levels of a rule.
+-- Numbers and associativities that attributes state, the level and the associativity of each index, and the levels of a rule.
 use Rattle.std.proofs.Common.{◌≡◌, ℕ, List, [], ◌∷◌, refl}
 use Rattle.std.specs.Prelude.{◌^◌, true, false, Option, Some, None, option_map, codes, map}
 use Rattle.lalrpop_norm_tree_parts.specs.Attributes.{AttributeData, attributes_of}
@@ -110,20 +110,20 @@ side_read = refl
 side_under_other_key : stated_side (attributes_of (attribute_of (codes "assoc") (valued (codes "level") (codes "left") ∷ []) ∷ [])) ≡ None
 side_under_other_key = refl
 
--- ---- places
+-- ---- indices
 
 -- an alternative with such attributes
 abbrev with : List AttributeData → Option AlternativeData
 with xs = Some (alternative nowhere xs (symbols []))
 
--- the level and the side of each place
+-- the level and the associativity of each index
 abbrev level_and_side : Leveled → ℕ × Side
 level_and_side a = (a.level, a.side)
 
 abbrev read : PlacedAlternatives → List (Option (ℕ × Side))
 read ps = map (option_map level_and_side) (with_levels ps)
 
--- level and side pass on, and a new level sets the side back to all
+-- level and associativity are inherited, and a new level sets the associativity back to `all`
 inherited : read
     (with (precedence (codes "1") ∷ [])
     ∷ (with (precedence (codes "2") ∷ (assoc (codes "left") ∷ []))
@@ -138,7 +138,7 @@ level_again : read (with (precedence (codes "2") ∷ (assoc (codes "none") ∷ [
     ≡ Some (2, neither) ∷ (Some (2, every) ∷ [])
 level_again = refl
 
--- a side alone takes the level before it, and passes on
+-- an associativity without a level takes the level before it, and is inherited
 side_alone : read (with (precedence (codes "2") ∷ (assoc (codes "left") ∷ [])) ∷ (with (assoc (codes "right") ∷ []) ∷ (with [] ∷ [])))
     ≡ Some (2, left) ∷ (Some (2, right) ∷ (Some (2, right) ∷ []))
 side_alone = refl
@@ -148,7 +148,7 @@ side_before_level : read (with (precedence (codes "1") ∷ []) ∷ (with (assoc 
     ≡ Some (1, every) ∷ (Some (2, left) ∷ (Some (2, left) ∷ []))
 side_before_level = refl
 
--- a disabled alternative states nothing, and keeps its place
+-- a disabled alternative states nothing, and keeps its index
 disabled_between : read (with (precedence (codes "1") ∷ []) ∷ (None ∷ (with [] ∷ (with (precedence (codes "0") ∷ []) ∷ []))))
     ≡ Some (1, every) ∷ (None ∷ (Some (1, every) ∷ (Some (0, every) ∷ [])))
 disabled_between = refl

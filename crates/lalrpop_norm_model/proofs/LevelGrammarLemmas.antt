@@ -1,4 +1,4 @@
--- The rules of the grammar with levels hold the clauses of the levels, place by place.
+-- The rules of the grammar with levels hold the clauses of the levels, index by index.
 use Rattle.std.proofs.Common.{◌≡◌, ◌⊎◌, inl, inr, ℕ, zero, suc, ◌+◌, ◌<◌, List, [], ◌∷◌, ◌++◌, map, length, Option, Some, None, Bool, true, false, not, refl, sym, ap, ap₂, ◌∙◌, subst, append-nil, arith}
 use Rattle.std.proofs.lemmas.List.{map-append}
 use Rattle.std.specs.Prelude.{slice_get, flat_map, option_map, bytes_eq, nat_eq, if◌then◌else◌}
@@ -151,7 +151,7 @@ module _ (g : GrammarData) (N : HasLevelNames g) where
       distinct_of (all_rules g) (λ d i. name_kept d i (has_levels (all_places d)) refl)
       (subst (λ (ds : List RuleData). IsDistinct (map (λ (r : RuleData). r.name.0) ds)) (all_level_rules g) N.no_clash)
 
-  -- each alternative at its place is scoped
+  -- each alternative at its index is scoped
   pub place_scoped : (d : RuleData) → In d (all_rules g) → (a : Leveled) → In (Some a) (ps d) → are_scoped rs d.args a.alternative.parts ≡ true
   place_scoped d i a j =
       N.names (as_leveled g d) a (leveled_in g d i) (subst (λ (qs : List (Option Leveled)). In (Some a) qs) (sym (places_are d i)) j)
@@ -225,7 +225,7 @@ module _ (g : GrammarData) (N : HasLevelNames g) where
       ⊎ ((has_levels (all_places d) ≡ true) × ((m : ℕ) × (b ≡ Some m) × In m (levels_of (ps d))
       × (level_reference l d.name.0 (Some m) ≡ (level_rule d (ps d) m).name.0)))
 
-  -- what is so of the rule that a declared reference stands for in the grammar with levels
+  -- what holds of the rule that a declared reference stands for in the grammar with levels
   pub record OwnRule (value : ConditionValue) (n : Name) (b : Option ℕ) : Type 0 where
     pub rule : RuleData
     pub owner : RuleData

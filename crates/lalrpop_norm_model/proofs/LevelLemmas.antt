@@ -87,7 +87,7 @@ pub of_rising : (l : ℕ) (ls : List ℕ) → In l (rising ls) → In l ls
 of_rising l [] h = h
 of_rising l (m ∷ ls) h = elim (insert_from l m (rising ls) h) [ inl e ↦ inl e | inr i ↦ inr (of_rising l ls i) ]
 
--- the level of a place is one of the rule's
+-- the level of an index is one of the rule's
 pub place_has_level : (ps : List (Option Leveled)) (a : Leveled) → In (Some a) ps → In a.level (levels_of ps)
 place_has_level ps a h = in_rising a.level _ (in_map (λ (b : Leveled). b.level) a (present ps) (in_present a ps h))
 
@@ -109,7 +109,7 @@ greater_at l m ls false e h = (inl refl, all)
     all n (inl i) = omega arith
     all n (inr i) = let most : n ≤ m = h.1 n i in let less : m ≤ l = ltb-false l m e in omega arith
 
--- nothing stands in a list without a greatest
+-- nothing is in a list without a greatest
 pub no_greatest : (ls : List ℕ) (n : ℕ) → greatest ls ≡ None → In n ls → ⊥
 no_greatest [] n e h = h
 no_greatest (l ∷ ls) n e h = grind arith

@@ -1,4 +1,4 @@
--- The rules of levels of small rules, whole, with their places.
+-- The rules of levels of small rules, whole, with their spans.
 use Rattle.std.proofs.Common.{◌≡◌, ℕ, List, [], ◌∷◌, refl}
 use Rattle.std.specs.Prelude.{Some, None, codes}
 use Rattle.std.specs.Fmt.{digits}
@@ -14,7 +14,7 @@ use Rattle.lalrpop_norm_model.proofs.ExampleWords.{span, nowhere, rule_name, bar
 -- #[cfg(all())] pub E: () = { #[precedence(level="1")] "n",
 --   #[precedence(level="2")] #[assoc(side="left")] #[cfg(all())] <l:E> "+" <r:E> => add(l, r) };
 
--- `cfg(all())`, with the places of the two names
+-- `cfg(all())`, with the spans of the two names
 abbrev active : ℕ → ℕ → ℕ → ℕ → AttributeData
 active a b c d = attribute (span a b) (codes "cfg") (paren (attributes_of (attribute (span c d) (codes "all") (paren no_attributes) ∷ [])))
 
@@ -40,7 +40,7 @@ sums = whole (codes "E")
     (number (precedence (codes "1") ∷ [])
     ∷ (sum (precedence (codes "2") ∷ (assoc (codes "left") ∷ (active 107 110 111 114 ∷ []))) (codes "E") (codes "E") ∷ []))
 
--- E1 has the number; E the sum, with E1 on its right, then the step to E1, which stands at the rule's place
+-- E1 has the number; E the sum, with E1 on its right, then the step to E1, which has the rule's span
 sums_leveled : level_rules sums ≡
     whole (codes "E1") (number [] ∷ [])
     ∷ (whole (codes "E")
@@ -50,7 +50,7 @@ sums_leveled : level_rules sums ≡
 unfolding digits
 sums_leveled = refl
 
--- ---- sides
+-- ---- associativities
 -- E = { #[precedence(level="1")] "n", #[precedence(level="2")] .. E "?" E ":" E };
 
 abbrev choice : List AttributeData → List ℕ → List ℕ → List ℕ → AlternativeData
@@ -155,7 +155,7 @@ macro_of_one_level : level_rules (macro_rule nowhere (codes "M") (codes "T" ∷ 
     ≡ macro_rule nowhere (codes "M") (codes "T" ∷ []) (only_x [] ∷ []) ∷ []
 macro_of_one_level = refl
 
--- one with two levels has its arguments on both, and the step names no arguments, which is refused
+-- one with two levels has its arguments on both, and the step names no arguments, which is an error
 macro_of_two_levels : level_rules (macro_rule nowhere (codes "M") (codes "T" ∷ [])
     (only_x (precedence (codes "1") ∷ []) ∷ (one_of (precedence (codes "2") ∷ []) (literal (codes "y")) ∷ [])))
     ≡ macro_rule nowhere (codes "M1") (codes "T" ∷ []) (only_x [] ∷ [])
@@ -163,7 +163,7 @@ macro_of_two_levels : level_rules (macro_rule nowhere (codes "M") (codes "T" ∷
 unfolding digits
 macro_of_two_levels = refl
 
--- a name in a macro that is the macro's own is that of an argument, and keeps it on each level and side
+-- a name in a macro that is the macro's own is that of an argument, and keeps it on each level and with each associativity
 abbrev own_argument : List AttributeData → AlternativeData
 own_argument xs = alternative nowhere xs (symbols (name (codes "M") ∷ (literal (codes "+") ∷ (name (codes "M") ∷ []))))
 
@@ -174,7 +174,7 @@ macro_keeps_its_argument : level_rules (macro_rule nowhere (codes "M") (codes "M
 unfolding digits
 macro_keeps_its_argument = refl
 
--- The levels stand in the place of their rule, and another rule names the highest one.
+-- The levels are in place of their rule, and another rule names the highest one.
 abbrev two_levels : RuleData
 two_levels = rule nowhere (codes "E") (one_of (precedence (codes "1") ∷ []) (literal (codes "n")) ∷ (one_of (precedence (codes "2") ∷ []) (literal (codes "m")) ∷ []))
 

@@ -24,14 +24,14 @@ use Rattle.lalrpop_norm_model.specs.Laws.{LevelRulesAreRead}
 use Rattle.lalrpop_norm_model.proofs.ReadingLemmas.{parts_leveled}
 use Rattle.lalrpop_norm_model.proofs.ScopeLemmas.{rule_found}
 
--- ---- clauses of places
+-- ---- clauses of indices
 
 clause_parts : (n : Name) (k : ℕ) (o p : Option ClosedSymbols) → o ≡ p → (rest : List Clause) (xs : List (Option ClosedSymbols)) →
     map (λ (c : Clause). c.parts) rest ≡ present xs → map (λ (c : Clause). c.parts) (clause_and n k o rest) ≡ present (p ∷ xs)
 clause_parts n k o None e rest xs h = rw e h
 clause_parts n k o (Some q) e rest xs h = rw e (ap (λ qs. q ∷ qs) h)
 
--- the parts of the clauses of numbered alternatives are what stands at the places
+-- the parts of the clauses of numbered alternatives are what is at the indices
 pub numbered_parts : {A : Type 0} (n : Name) (f : ℕ → Option ClosedSymbols) (h : A → Option ClosedSymbols) (j : ℕ) (xs : List A) →
     ((i : ℕ) (x : A) → slice_get xs i ≡ Some x → f (j + i) ≡ h x) → map (λ (c : Clause). c.parts) (numbered n f j (length xs)) ≡ present (map h xs)
 numbered_parts n f h j [] e = refl

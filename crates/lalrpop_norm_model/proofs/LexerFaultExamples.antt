@@ -1,4 +1,4 @@
--- Where lexers may refuse small grammars, and what is seen of a grammar for which none makes an automaton.
+-- The errors that lexers may report in small grammars, and what is seen of a grammar for which none makes an automaton.
 use Rattle.std.proofs.Common.{◌≡◌, ℕ, List, [], ◌∷◌, Some, None, codes, inl, refl, ap, arith}
 use Rattle.std.specs.List.Sorted.{IsStrictlySortedBy}
 use Rattle.lalrpop_norm_tree_names.specs.declared.names.TerminalLiteral.{TerminalLiteral}
@@ -19,7 +19,7 @@ use Rattle.lalrpop_norm_model.specs.LexerFaults.{literal_at, LexerRefuses, by_te
 use Rattle.lalrpop_norm_model.proofs.EntryExamples.{place, use_at, entry, words, words_entries, words_are, renamed, renamed_entries, renamed_are}
 use Rattle.lalrpop_norm_model.proofs.ExampleGrammars.{quoted, plain, a_rule, match_tokens, of_rules}
 
--- ---- where literals stand
+-- ---- the spans of literals
 
 -- the symbol that adds an entry, else the match item
 added_place : literal_at words (Regex (codes "[a-zA-Z]+")) ≡ Some (place 5)
@@ -28,11 +28,11 @@ added_place = refl
 item_place : literal_at words (Regex (codes "(?i)BEGIN")) ≡ Some (place 1)
 item_place = refl
 
--- a user name that is a literal of the block stands at its item, though it is used
+-- a user name that is a literal of the block has the span of its item, though it is used
 used_place : literal_at words (Quoted (codes "+")) ≡ Some (place 2)
 used_place = refl
 
--- what names itself where it is used stands there for its item too, at its first use
+-- what names itself where it is used has that span also for its item, at its first use
 both_place : literal_at renamed (Quoted (codes "a")) ≡ Some (place 4)
 both_place = refl
 
@@ -54,7 +54,7 @@ words_regexes = Regex (codes "[a-zA-Z]+") ∷ Regex (codes "(?i)BEGIN") ∷ Quot
 zero_not_one : ◌≡◌ {A = ℕ} 0 1 → ⊥
 zero_not_one h = absurd (omega (arith, h))
 
--- entries 0 and 1: told at the literal of entry 0, which is the symbol's
+-- entries 0 and 1: reported at the literal of entry 0, which is the symbol's
 ambiguity : LexerRefuses strict words (Ambiguity, place 5)
 ambiguity = by_ambiguity (place 5) (record {
   entries = words_entries;
@@ -67,7 +67,7 @@ ambiguity = by_ambiguity (place 5) (record {
   place = record { entry = entry 2 (Regex (codes "[a-zA-Z]+")) (own_mapping (Regex (codes "[a-zA-Z]+"))); at_index = refl; place = refl };
 })
 
--- entry 1: told at its match item
+-- entry 1: reported at its match item
 feature_there : LexerRefuses strict words (RegexFeature, place 1)
 feature_there = by_feature (place 1) (record {
   entries = words_entries;
@@ -107,7 +107,7 @@ bad_text uses = by_text (place 1) (record {
   place = record { entry = open_entry; at_index = refl; place = refl };
 })
 
--- it may be told where nothing comes before it
+-- it may be reported if nothing comes before it
 bad_is_told : MayBeTold (StandsAtLexer strict (open_group [])) (token_findings (open_group [])) (BadRegex, place 1)
 bad_is_told = inl (bad_text [])
 

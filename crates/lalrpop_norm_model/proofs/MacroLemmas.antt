@@ -252,7 +252,7 @@ module _ (g : GrammarData) (N : HasLevelNames g) where
         (macro_at 0 d.alternatives (λ x h. h) k
         ∙ ap (λ qs. option_map (leveled_symbols l) (instance_at value rs here args (slice_get qs k))) (sym (places_are g N d i)))
 
-  -- as many places as alternatives
+  -- as many indices as alternatives
   same_count : (d : RuleData) (strip : AlternativeData → AlternativeData) (j : ℕ) (xs : List AlternativeData) →
       length (map (option_map {U = Leveled} (λ (a : AlternativeData). record { level = 0; side = every; alternative = a }))
       (map (option_map (resolved_alternative (sense_of (globals (leveled_grammar g)) d.args))) (map Some (map strip xs))))

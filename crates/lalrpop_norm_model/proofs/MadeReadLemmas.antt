@@ -271,7 +271,7 @@ module _ (value : ConditionValue) (ds : List RuleData) where
         ∙ ap (λ o. numbered d.name.0 (meaning_read.own_parts d.name.0 None) 0 (meaning_read.reference_count d.name.0) ++ step_clauses d.name.0 o)
         (sym previous_read))
 
-  -- ---- made rules
+  -- ---- generated rules
 
   abbrev pub OneRule : Part → Type 0
   OneRule p = (r : RuleData) × (made_rules value (macros_in ds) p ≡ r ∷ []) × IsRuleOf meaning_read p r

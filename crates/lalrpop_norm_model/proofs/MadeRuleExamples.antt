@@ -1,4 +1,4 @@
--- The rules that symbols are made into, whole: groups, repeats, lookarounds and instances of macros.
+-- The rules that symbols are desugared to, whole: groups, repeats, location symbols and instances of macros.
 use Rattle.std.proofs.Common.{◌≡◌, ℕ, List, [], ◌∷◌, refl}
 use Rattle.std.specs.Prelude.{true, false, Some, None, codes, map}
 use Rattle.std.specs.Str.{chars}
@@ -18,7 +18,7 @@ use Rattle.lalrpop_norm_model.proofs.ExampleWords.{span, rule_name, bare_attribu
 abbrev token : ℕ → ℕ → List ℕ → Part
 token a b t = at (span a b) (literal t)
 
--- the rule that a symbol is made into, where there are no macros
+-- the rule that a symbol is desugared to, where there are no macros
 abbrev made : Part → List RuleData
 made p = made_rules example_value [] p
 
@@ -55,7 +55,7 @@ group_of_one : made (grouped (token 5 8 (codes "a") ∷ [])) ≡
 unfolding chars encode
 group_of_one = refl
 
--- ("a" <"b">): the chosen one alone counts
+-- ("a" <"b">): the selected one alone counts
 abbrev b_chosen : List Part
 b_chosen = token 5 8 (codes "a") ∷ (at (span 9 14) (chosen (token 10 13 (codes "b"))) ∷ [])
 
@@ -72,7 +72,7 @@ group_of_two_chosen : made (grouped two_chosen) ≡
 unfolding chars encode
 group_of_two_chosen = refl
 
--- ((<"b">) A): what an inner group chooses is chosen there; in the type the group is the name of its rule
+-- ((<"b">) A): what an inner group selects is selected there; in the type the group is the name of its rule
 abbrev chosen_inside : List Part
 chosen_inside = at (span 5 12) (group (parts_of (at (span 6 11) (chosen (token 7 10 (codes "b"))) ∷ []))) ∷ (at (span 13 14) (name (codes "A")) ∷ [])
 
@@ -105,7 +105,7 @@ star_of_a : made (at (span 4 20) (starred (token 4 7 (codes "a")))) ≡
 unfolding chars encode
 star_of_a = refl
 
--- the repeated symbol keeps its place, and the rule is not inlined
+-- the repeated symbol keeps its span, and the rule is not inlined
 plus_of_a : made (at (span 4 20) (plussed (token 4 7 (codes "a")))) ≡
     without_inline (codes "\"a\"+") (vector_of (of_literal (codes "a")))
     (coded (token 4 7 (codes "a") ∷ []) (codes "alloc::vec![<>]")
@@ -129,7 +129,7 @@ question_of_a : made (at (span 4 20) (optional (token 4 7 (codes "a")))) ≡
 unfolding chars encode
 question_of_a = refl
 
--- ---- lookarounds
+-- ---- location symbols
 
 abbrev location : List ℕ → Action → RuleData
 location n code = record (rule (span 4 20) n (record (alternative (span 4 20) [] no_parts) { action = Some code } ∷ [])) {
@@ -193,7 +193,7 @@ one_alternative : made_rules example_value (conditional_macro ∷ (macro_m ∷ [
 unfolding chars encode
 one_alternative = refl
 
--- M<"t", U>: both stand at the call, without their conditions
+-- M<"t", U>: both have the span of the call, without their conditions
 both_alternatives : made_rules example_value (conditional_macro ∷ (macro_m ∷ [])) (call_of_m (codes "t")) ≡
     instance (codes "M<\"t\", U>")
     (record (first_of (body (literal (codes "t")) (name (codes "U")))) { span = span 4 20 }
@@ -201,7 +201,7 @@ both_alternatives : made_rules example_value (conditional_macro ∷ (macro_m ∷
 unfolding chars encode
 both_alternatives = refl
 
--- an argument that is a wrapped symbol keeps what is inside where that stood
+-- an argument that is a wrapped symbol keeps what is inside at its span
 substituted_wrapped : substituted (argument_kind (rule_name (codes "T") ∷ []) (parts_of (at (span 6 10) (name_before (codes "x") (at (span 8 9) (name (codes "Y")))) ∷ [])))
     (at (span 30 35) (chosen (at (span 31 32) (name (codes "T"))))) ≡
     at (span 30 35) (chosen (at (span 31 32) (name_before (codes "x") (at (span 8 9) (name (codes "Y"))))))

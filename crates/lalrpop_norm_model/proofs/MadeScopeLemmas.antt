@@ -1,4 +1,4 @@
--- In what is met, and so in the made rules, each name has a meaning and no argument is left.
+-- In what is reached, and so in the generated rules, each name has a meaning and no argument is left.
 use Rattle.std.proofs.Common.{◌≡◌, inl, inr, ℕ, zero, suc, List, [], ◌∷◌, ◌++◌, map, Option, Some, None, Bool, true, false, not, ◌||◌, ◌&&◌, refl, sym, ap, ap₂, ◌∙◌, subst}
 use Rattle.std.specs.Prelude.{flat_map, bytes_eq, if◌then◌else◌}
 use Rattle.std.proofs.lemmas.Bool.{and_parts}
@@ -30,7 +30,7 @@ module _ (rs : List WrittenRule) where
   abbrev pub IsMade : Part → Type 0
   IsMade p = (is_scoped rs [] p ≡ true) × BecomesRule (closed p)
 
-  -- ---- what is met
+  -- ---- what is reached
 
   then_itself : (x : Part) (ms : List Part) → IsMade x → ((q : Part) → In q ms → IsMade q) → (q : Part) → In q (ms ++ x ∷ []) → IsMade q
   then_itself x ms h f q i = elim (in_cases q ms (x ∷ []) i) [ inl j ↦ f q j | inr j ↦ here j ]
@@ -172,7 +172,7 @@ module _ (rs : List WrittenRule) where
 
 -- ---- the rules of a grammar
 
--- an alternative of a rule stands at one of its places
+-- an alternative of a rule is at one of its indices
 pub placed : (a : AlternativeData) (xs : List AlternativeData) → In a xs →
     In (Some (record { level = 0; side = every; alternative = a })) (without_levels (map Some xs))
 placed a [] h = absurd h
@@ -191,7 +191,7 @@ module _ (value : ConditionValue) (ds : List RuleData) (S : IsScoped (map flat_o
   each_scoped [] h = tt
   each_scoped (a ∷ xs) h = (h a (inl refl), each_scoped xs (λ b i. h b (inr i)))
 
-  -- what the rules of the grammar meet
+  -- what the rules of the grammar reach
   pub start_made : (q : Part) → In q (flat_map met_in_rule (plain_in ds)) → IsMade (map flat_of ds) q
   start_made = rules_made (map flat_of ds) (plain_in ds) (λ d i.
       let l = plain_listed ds d i in
@@ -222,6 +222,6 @@ module _ (value : ConditionValue) (ds : List RuleData) (S : IsScoped (map flat_o
   made_rule_scoped (at s (written.tupled ns p)) h r i = absurd i
   made_rule_scoped (at s written.error_terminal) h r i = absurd i
 
-  -- what the rule of a symbol meets
+  -- what the rule of a symbol reaches
   pub next_made : (p : Part) → IsMade (map flat_of ds) p → (q : Part) → In q (met_by_made value (macros_in ds) p) → IsMade (map flat_of ds) q
   next_made p h = rules_made (map flat_of ds) (made_rules value (macros_in ds) p) (made_rule_scoped p h)

@@ -1,4 +1,4 @@
--- What is met in written symbols is what the closed symbols meet.
+-- What is reached in written symbols is what the ground symbols reach.
 use Rattle.std.proofs.Common.{◌≡◌, inl, inr, ℕ, ◌+◌, List, [], ◌∷◌, ◌++◌, map, refl, sym, ap, ap₂, ◌∙◌, append-nil}
 use Rattle.std.specs.Prelude.{flat_map, None}
 use Rattle.std.proofs.lemmas.List.{map-append}
@@ -25,7 +25,7 @@ use Rattle.lalrpop_norm_model.proofs.MadeReadLemmas.{held, made_rules_are_read, 
 
 -- ---- symbols
 
--- what its parts meet, then the symbol itself
+-- what its parts reach, then the symbol itself
 then_itself : (x : Part) (ms : List Part) (gs : List ClosedSymbol) (g : ClosedSymbol) → map closed ms ≡ gs → closed x ≡ g →
     map closed (ms ++ x ∷ []) ≡ gs ++ g ∷ []
 then_itself x ms gs g e f = map-append closed ms (x ∷ []) ∙ ap₂ (λ ys y. ys ++ y ∷ []) e f
@@ -62,7 +62,7 @@ mutual
       ∙ ap₂ ◌++◌ (met_read before (after + count_parts flat_reader.is_own ps) p)
       (all_met_read (before + count_part flat_reader.is_own p) after ps)
 
--- ---- wrappers meet nothing
+-- ---- wrappers reach nothing
 
 unwrapped_meets : (g : ClosedSymbol) → meets (unwrapped g) ≡ meets g
 unwrapped_meets (wrapped w g) = unwrapped_meets g
@@ -96,7 +96,7 @@ clauses_met : (cs : List Clause) → flat_map meets_all (map (λ (c : Clause). a
 clauses_met [] = refl
 clauses_met (c ∷ cs) = ap₂ ◌++◌ (all_unwrapped_meet c.parts) (clauses_met cs)
 
--- a rule that holds the clauses of a symbol meets what the symbol's rule meets
+-- a rule that holds the clauses of a symbol reaches what the symbol's rule reaches
 pub rule_met : (M : Meaning) (g : ClosedSymbol) (r : RuleData) →
     map (λ (a : AlternativeData). all_unwrapped (closed_parts a)) r.alternatives ≡ map (λ (c : Clause). all_unwrapped c.parts) (clauses M g) →
     map closed (met_in_rule r) ≡ rule_meets M g

@@ -1,4 +1,4 @@
--- Own occurrences of small rules: how many there are, and the bound of each.
+-- Recursive occurrences of small rules: how many there are, and the bound of each.
 use Rattle.std.proofs.Common.{◌≡◌, ℕ, List, [], ◌∷◌, refl}
 use Rattle.std.specs.Prelude.{Option, Some, None, codes, bytes_eq, false}
 use Rattle.lalrpop_norm_tree_parts.specs.Attributes.{AttributeData}
@@ -12,7 +12,7 @@ use Rattle.lalrpop_norm_model.specs.WrittenRules.{leveled_rules}
 use Rattle.lalrpop_norm_model.specs.Grammars.{ConditionValue, meaning}
 use Rattle.lalrpop_norm_model.proofs.ExampleWords.{nowhere, precedence, assoc, literal, name, identifier, bare, starred, plussed, optional, name_before, here, symbols, alternative, rule, rules_alone}
 
--- ---- numbers of own occurrences
+-- ---- numbers of recursive occurrences
 
 abbrev occurrences : List Kind → ℕ
 occurrences ks = count_parts (λ n. bytes_eq n (codes "E")) (symbols ks)
@@ -46,23 +46,23 @@ none_leaves_none = refl
 all_leaves_each : bound_at every 5 3 0 2 ∷ (bound_at every 5 3 1 1 ∷ (bound_at every 5 3 2 0 ∷ [])) ≡ 5 ∷ (5 ∷ (5 ∷ []))
 all_leaves_each = refl
 
--- one own occurrence is both the first and the last
+-- one recursive occurrence is both the first and the last
 one_alone : bound_at left 5 3 0 0 ∷ (bound_at right 5 3 0 0 ∷ (bound_at neither 5 3 0 0 ∷ [])) ≡ 5 ∷ (5 ∷ (3 ∷ []))
 one_alone = refl
 
--- the lowest level with the side all
+-- the lowest level with the associativity `all`
 lowest_with_all : own_bound every 0 None 0 0 ≡ 0
 lowest_with_all = refl
 
 -- ---- bounds of the alternatives of E
 
--- E = { #[precedence(level="1")] "n", #[precedence(level="2")] .. }, the second alternative with a side or without one
+-- E = { #[precedence(level="1")] "n", #[precedence(level="2")] .. }, the second alternative with an associativity or without one
 abbrev of_e : List AttributeData → List Kind → GrammarData
 of_e xs ks = rules_alone (rule nowhere (codes "E")
     (alternative nowhere (precedence (codes "1") ∷ []) (symbols (literal (codes "n") ∷ []))
     ∷ (alternative nowhere (precedence (codes "2") ∷ xs) (symbols ks) ∷ [])) ∷ [])
 
--- no conditions stand in these grammars
+-- no conditions are in these grammars
 abbrev no_value : ConditionValue
 no_value = λ op g text. false
 
@@ -121,7 +121,7 @@ three_all = refl
 three_without_side : second_of_e [] choice ≡ choice_read 2 2 2
 three_without_side = refl
 
--- Two<E> "+" E: an occurrence in an argument counts in its place
+-- Two<E> "+" E: an occurrence in an argument counts in reading order
 abbrev two_and_sum : List Kind
 two_and_sum = call (codes "Two") (symbols (name (codes "E") ∷ [])) ∷ (literal (codes "+") ∷ (name (codes "E") ∷ []))
 

@@ -1,4 +1,4 @@
--- Where the alternatives of the plain rules of small grammars come from, in the order of their actions.
+-- Where the alternatives of the rules of the expanded grammar of small grammars come from, in the order of their actions.
 use Rattle.std.proofs.Common.{◌≡◌, ℕ, List, [], ◌∷◌, refl}
 use Rattle.std.specs.Prelude.{codes}
 use Rattle.lalrpop_norm_tree.specs.Symbols.{Kind, group, call, chosen, lookahead, lookbehind}
@@ -49,7 +49,7 @@ disabled_origins : origins (written_rules without_f (rules_alone (rule nowhere (
     ≡ written (codes "A") 1 ∷ []
 disabled_origins = refl
 
--- A = @L ("a" <"b">)? @R: what is met last stands first
+-- A = @L ("a" <"b">)? @R: what is reached last is first
 group_origins : origins (leveled_rules (rules_alone
     (one (codes "A") (lookahead ∷ (optional (here (group (symbols (literal (codes "a") ∷ (chosen (here (literal (codes "b"))) ∷ []))))) ∷ (lookbehind ∷ []))) ∷ []))) 1
     ≡ written (codes "A") 0 ∷ (from_lookbehind ∷ (question_some ∷ (question_empty ∷ (from_group ∷ (from_lookahead ∷ [])))))

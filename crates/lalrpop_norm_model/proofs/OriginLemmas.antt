@@ -1,4 +1,5 @@
--- Each alternative of the grammar with levels has its origin in the written one; and both grammars stand as the theory has it.
+-- Each alternative of the grammar with levels has its origin in the written one; and both grammars have the relation that the
+-- theory defines.
 use Rattle.std.proofs.Common.{◌≡◌, inl, inr, ℕ, List, [], ◌∷◌, map, Option, Some, None, Bool, true, false, not, refl, sym, ap, ap₂, ◌∙◌, subst, true≢false, arith}
 use Rattle.std.specs.Prelude.{slice_get, flat_map, if◌then◌else◌}
 use Rattle.std.proofs.lemmas.List.{map-append}

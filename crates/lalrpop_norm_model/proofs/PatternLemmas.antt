@@ -1,4 +1,4 @@
--- Nothing is wrong with the tuple patterns of a grammar exactly where they fit.
+-- Nothing is wrong with the tuple patterns of a grammar if and only if they fit.
 use Rattle.std.proofs.Common.{◌≡◌, ◌↔◌, ℕ, Bool, true, false, List, [], ◌∷◌, map, Option, Some, None, if◌then◌else◌, refl}
 use Rattle.lalrpop_norm_tree.specs.Items.{GrammarData}
 use Rattle.lalrpop_norm_tree_parts.specs.Reprs.{ReprData, Reprs, tuple, no_reprs, repr_and}
@@ -73,7 +73,7 @@ fits_symbol g f table p h =
     let found : f h.name ≡ Some h.type = (table h.name h.type).1 h.has in
     rw (h.nonterminal_below, found, from_fit (several p.0) h.type h.fitting) refl
 
--- Where the table is the relation of types, nothing is wrong exactly where each tuple symbol fits.
+-- Where the table is the relation of types, nothing is wrong if and only if each tuple symbol fits.
 pub patterns_exactly : (g : GrammarData) (f : Table) → IsTable g f → (pattern_misfits g f ≡ []) ↔ PatternsFit g
 patterns_exactly g f table = (
   λ e a h p i. symbol_fits g f table p

@@ -1,4 +1,4 @@
--- The plain rules are the rules of the declared references and of the symbols that are made.
+-- The rules of the expanded grammar are the rules of the declared references and of the symbols that are made.
 use Rattle.std.proofs.Common.{◌≡◌, inl, inr, ℕ, ◌+◌, List, [], ◌∷◌, ◌++◌, map, length, refl, sym, ap, ap₂, ◌∙◌, subst, true}
 use Rattle.std.specs.Prelude.{flat_map, drop, None}
 use Rattle.std.proofs.lemmas.List.{length-append, length-map}
@@ -102,7 +102,7 @@ alternatives_lowered rs (a ∷ xs) =
 
 -- ---- rules
 
--- a plain rule has the name of a symbol, and the symbols of its clauses
+-- a rule of the expanded grammar has the name of a symbol, and the symbols of its clauses
 pub record Fits (M : Meaning) (name : ClosedSymbol → Name) (r : RuleData) (g : ClosedSymbol) : Type 0 where
   pub named : r.name.0 ≡ name g
   pub lowered : map (λ (a : AlternativeData). lowered_parts a.parts) r.alternatives ≡ map (λ (c : Clause). symbols_of name c.parts) (clauses M g)
@@ -168,7 +168,7 @@ module _ (M : Meaning) (name : ClosedSymbol → Name) where
       (origins_counted rs gs f.1)
       ∙ sym (length-append r.alternatives (flat_map (λ (s : RuleData). s.alternatives) rs))
 
--- ---- the plain rules
+-- ---- the rules of the expanded grammar
 
 module _ (value : ConditionValue) (g : GrammarData) (S : IsSettled g) where
   abbrev M : Meaning

@@ -1,4 +1,4 @@
--- The plain rules of small grammars, whole: symbols replaced by names, then the made rules.
+-- The rules of the expanded grammar of small grammars, whole: symbols replaced by names, then the generated rules.
 use Rattle.std.proofs.Common.{◌≡◌, ℕ, List, [], ◌∷◌, refl}
 use Rattle.std.specs.Prelude.{◌+◌, false, Some, None, codes}
 use Rattle.std.specs.Str.{chars}
@@ -65,7 +65,7 @@ repeat_rules : plain_rules example_value repeat 2 ≡ plain_s ∷ (star_rule ∷
 unfolding chars encode
 repeat_rules = refl
 
--- the made rules stand behind all items
+-- the generated rules are behind all items
 repeat_grammar : plain_grammar example_value repeat 2 ≡
     grammar_of (tokens ∷ (rule_item plain_s ∷ (rule_item star_rule ∷ (rule_item plus_rule ∷ []))))
 unfolding chars encode
@@ -96,7 +96,7 @@ optional_group_rules : plain_rules example_value optional_group 1 ≡
 unfolding chars encode
 optional_group_rules = refl
 
--- ---- a macro with a lookaround and a declared type
+-- ---- a macro with a location symbol and a declared type
 -- M<T>: Vec<T> = @L T; use std::fmt; S: Vec = <x:M<A*>>; A = "a";
 
 abbrev macro_m : RuleData
@@ -104,7 +104,7 @@ macro_m = record (macro_rule (span 0 12) (codes "M") (codes "T" ∷ []) (alterna
   type_decl = Some (nominal (path_of (codes "Vec" ∷ [])) (types_of (id (codes "T") ∷ [])));
 }
 
--- S with what stands in its symbol x, and A
+-- S with what is in its symbol x, and A
 abbrev calls_m : Part → RuleData
 calls_m p = typed 31 40 (codes "S") (id (codes "Vec")) (alternative (span 43 52) [] (parts_of (at (span 43 52) (name_before (codes "x") p) ∷ [])) ∷ [])
 
@@ -139,7 +139,7 @@ location = record (rule (span 15 17) (codes "@L") (record (alternative (span 15 
   attributes = attributes_of (attribute (span 15 17) (codes "inline") empty ∷ []);
 }
 
--- the macro is dropped, other items stay in their places; a written rule's type is not looked at
+-- the macro is dropped, other items stay as they are; a written rule's type is not looked at
 from_macro_plain : plain_grammar example_value from_macro 2 ≡ grammar_of
     (use_item (codes "std::fmt")
     ∷ (rule_item (calls_m (named_at 46 51 (codes "M<A*>")))
@@ -162,7 +162,7 @@ named_argument = rules_alone
     ∷ (of_s (at (span 21 28) (call (codes "M") (parts_of (at (span 23 27) (name_before (codes "x") (at (span 25 27) (starred (named_at 25 26 (codes "Y"))))) ∷ []))))
     ∷ (rule_y ∷ [])))
 
--- the name goes with what it names, into the instance and into its type; inside it all keeps its place
+-- the name goes with what it names, into the instance and into its type; inside it all keeps its span
 named_argument_rules : plain_rules example_value named_argument 1 ≡
     of_s (named_at 21 28 (codes "M<x:Y*>"))
     ∷ (rule_y
@@ -190,12 +190,12 @@ three_instances = rules_alone
     ∷ (of_one 121 126 (codes "Expr2") (expr_of 129 140 (codes "AAC"))
     ∷ (of_one 142 147 (codes "Expr3") (expr_of 150 161 (codes "ABC")) ∷ []))))
 
--- an instance at a..b with two alternatives, whose symbols stand where they are written
+-- an instance at a..b with two alternatives, whose symbols keep their spans
 abbrev instance : ℕ → ℕ → List ℕ → List ℕ → List ℕ → RuleData
 instance a b n k l = rule (span a b) n
     (alternative (span a b) [] (symbols (literal k ∷ [])) ∷ (alternative (span a b) [] (symbols (literal l ∷ [])) ∷ []))
 
--- the last one met stands first, and each has the alternatives whose conditions are true
+-- the last one reached is first, and each has the alternatives whose conditions are true
 three_instances_rules : plain_rules example_value three_instances 1 ≡
     of_one 100 105 (codes "Expr1") (named_at 108 119 (codes "Expr<\"A*C\">"))
     ∷ (of_one 121 126 (codes "Expr2") (named_at 129 140 (codes "Expr<\"AAC\">"))
@@ -208,7 +208,7 @@ three_instances_rules = refl
 
 -- ---- symbols replaced
 
--- what is made into a rule is a name, in wrappers too; all else stays
+-- what is desugared is a name, in wrappers too; all else stays
 replaced_symbols : all_replaced (parts_of
     (at (span 0 9) (chosen (at (span 1 8) (named (record { mutable = false; name = codes "x" }) (at (span 3 8) (tupled no_arguments (at (span 6 8) (plussed (named_at 6 7 (codes "A")))))))))
     ∷ (at (span 10 12) lookahead ∷ (at (span 13 15) lookbehind ∷ (at (span 16 18) (group (parts_of []))

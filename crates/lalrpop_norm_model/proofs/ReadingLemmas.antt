@@ -1,4 +1,4 @@
--- What stands in the grammar with levels reads as the bounded symbols with the names of their levels.
+-- What is in the grammar with levels reads as the bounded symbols with the names of their levels.
 use Rattle.std.proofs.Common.{◌≡◌, ℕ, ◌+◌, List, Option, Bool, true, false, ◌&&◌, refl, ap, ap₂, ◌∙◌}
 use Rattle.std.specs.Prelude.{not, if◌then◌else◌}
 use Rattle.std.proofs.lemmas.Bool.{and_parts}
@@ -60,7 +60,7 @@ module _ (rs : List WrittenRule) (args : List NonterminalString) (l : Name → �
         (parts_leveled (before + count_part R.is_own p) after
         (b + count_part Q.is_own (leveled_part R.is_own level before (after + count_parts R.is_own ps) p)) a ps both.1)
 
--- where the name of each own occurrence is its own name, nothing changes
+-- where the name of each recursive occurrence is its own name, nothing changes
 module _ (own : Name → Bool) (level : ℕ → ℕ → Name) (same : (n : Name) (before after : ℕ) → own n ≡ true → level before after ≡ n) where
   kept_name : (n : Name) (before after : ℕ) (b : Bool) → own n ≡ b → (if b then level before after else n) ≡ n
   kept_name n before after true e = same n before after e
@@ -116,7 +116,7 @@ module _ (R Q : Reader) (same : (n : Name) (before after b a : ℕ) → read_nam
         (part_alike before (after + count_parts R.is_own ps) b (a + count_parts Q.is_own ps) p)
         (parts_alike (before + count_part R.is_own p) after (b + count_part Q.is_own p) a ps)
 
--- where each name has a meaning there is nothing left to resolve, also once own occurrences have the names of their levels
+-- where each name has a meaning there is nothing left to resolve, also once recursive occurrences have the names of their levels
 module _ (rs : List WrittenRule) (args : List NonterminalString) (sense : Name → Option Sense) (own : Name → Bool) (level : ℕ → ℕ → Name) where
   mutual
     kind_settled : (before after : ℕ) (k : Kind) → is_scoped_kind rs args k ≡ true →

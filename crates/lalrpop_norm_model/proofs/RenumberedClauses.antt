@@ -14,7 +14,7 @@ use Rattle.lalrpop_norm_model.specs.Renumbered.{closed_up, rank_in, rank_of, ran
 use Rattle.lalrpop_norm_model.specs.Laws.{ClausesOnlyRenumber}
 use Rattle.lalrpop_norm_model.proofs.RenumberedLemmas.{disabled_are_left_out, named_closed, previous_closed, reader_same, macro_same, own_same}
 
--- the parts of what stands at a place, by the parts of an alternative
+-- the parts of what is at an index, by the parts of an alternative
 abbrev parts_where : {A : Type 0} → (A → Option ClosedSymbols) → Option (Option A) → Option ClosedSymbols
 parts_where F None = None
 parts_where F (Some None) = None
@@ -30,7 +30,7 @@ module _ (n : Name) (F : Leveled → Option ClosedSymbols) (rank : Name → ℕ 
   one_clause i j None xs ys e h = h
   one_clause i j (Some parts) xs ys e h = ap₂ (λ k zs. clause (written n k) parts ∷ zs) (sym e) h
 
-  -- the clauses of some places, numbered from i on, and of those that are there, numbered from j on
+  -- the clauses of some indices, numbered from i on, and of those that are there, numbered from j on
   clauses_from : (ps : List (Option Leveled)) (i j : ℕ) →
       ((x : ℕ) → before (x + i) ≡ parts_where F (slice_get ps x)) →
       ((x : ℕ) → after (x + j) ≡ parts_where F (slice_get (map Some (present ps)) x)) →

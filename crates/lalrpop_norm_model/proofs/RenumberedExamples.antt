@@ -43,7 +43,7 @@ written_numbers = refl
 prepared_numbers : map (prepared.call_parts (codes "M") (only token)) (0 ∷ (1 ∷ (2 ∷ []))) ≡ Some second_parts ∷ (None ∷ (None ∷ []))
 prepared_numbers = refl
 
--- none stands before the second place, one before what would be a third; a name without a rule has no ranks but 0
+-- none is before the second index, one before what would be a third; a name without a rule has no ranks but 0
 ranks_without_f : map (rank_by (written_rules without_f first_disabled) (codes "M")) (0 ∷ (1 ∷ (2 ∷ []))) ≡ 0 ∷ (0 ∷ (1 ∷ []))
 ranks_without_f = refl
 
@@ -56,7 +56,7 @@ no_rule_no_ranks = refl
 counts : written.call_count (codes "M") ∷ (prepared.call_count (codes "M") ∷ []) ≡ 2 ∷ (1 ∷ [])
 counts = refl
 
--- the place itself does not count, nor does what stands behind it
+-- the index itself does not count, nor does what is behind it
 between_holes : map (rank_in {A = ℕ} (Some 7 ∷ (None ∷ (Some 8 ∷ (Some 9 ∷ []))))) (0 ∷ (1 ∷ (2 ∷ (3 ∷ (4 ∷ []))))) ≡ 0 ∷ (1 ∷ (1 ∷ (2 ∷ (3 ∷ []))))
 between_holes = refl
 

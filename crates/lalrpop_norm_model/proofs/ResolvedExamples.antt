@@ -38,7 +38,7 @@ open_names : N_is (identifier (codes "M") ∷ (identifier (codes "D") ∷ (ident
     (identifier (codes "M") ∷ (identifier (codes "D") ∷ (identifier (codes "T") ∷ [])))
 open_names = refl
 
--- names in a symbol are resolved, each where it stands
+-- names in a symbol are resolved, each at its span
 abbrev nested : (List ℕ → Kind) → (List ℕ → Kind) → Parts
 nested inner token = parts_of
     (at (span 10 15) (call (codes "M") (parts_of (at (span 12 13) (inner (codes "A")) ∷ [])))
@@ -51,7 +51,7 @@ nested inner token = parts_of
 nested_names : resolved_grammar (with_n (nested identifier identifier)) ≡ with_n (nested name bare)
 nested_names = refl
 
--- what is no identifier stays: a terminal of an argument's name, a nonterminal of a terminal's name, lookarounds, `!`
+-- what is no identifier stays: a terminal of an argument's name, a nonterminal of a terminal's name, location symbols, `!`
 no_identifiers : N_is
     (bare (codes "A") ∷ (name (codes "C") ∷ (lookahead ∷ (lookbehind ∷ (error_terminal ∷ (literal (codes "A") ∷ []))))))
     (bare (codes "A") ∷ (name (codes "C") ∷ (lookahead ∷ (lookbehind ∷ (error_terminal ∷ (literal (codes "A") ∷ []))))))
@@ -97,7 +97,7 @@ rules_with_f : written_rules with_f in_turn ≡
     written (codes "E") [] false (leveled 0 (of_kinds e_with_f (bare (codes "C") ∷ [])) ∷ []) ∷ (macro_m ∷ [])
 rules_with_f = refl
 
--- without f the second one is, its first place is empty, and C has no meaning
+-- without f the second one is, its first index is empty, and C has no meaning
 rules_without_f : written_rules without_f in_turn ≡
     written (codes "E") [] true (None ∷ (leveled 1 e_leveled ∷ [])) ∷ (macro_m ∷ [])
 rules_without_f = refl

@@ -1,4 +1,4 @@
--- What is new in each round of small expansions, where it was first met, and the order of the rules.
+-- What is new in each round of small expansions, where it was first reached, and the order of the rules.
 use Rattle.std.proofs.Common.{◌≡◌, ℕ, List, [], ◌∷◌, refl}
 use Rattle.std.specs.Prelude.{true, false, codes, length, map}
 use Rattle.std.specs.Str.{chars}
@@ -48,7 +48,7 @@ first_round : new_in 0 ≡
     ∷ (at (span 94 100) (called (codes "C") (token 96 99 (codes "d"))) ∷ []))
 first_round = refl
 
--- Round 2 reads the rules of C, B and A. An argument that is substituted stands where its name stood in the macro.
+-- Round 2 reads the rules of C, B and A. An argument that is substituted has the span of its name in the macro.
 abbrev comma_group : Part
 comma_group = at (span 42 49) (pair (token 43 46 (codes ",")) (token 47 48 (codes "d")))
 
@@ -62,7 +62,7 @@ second_round : new_in 1 ≡
     ∷ (at (span 13 23) (called (codes "B") dot_group) ∷ [])))
 second_round = refl
 
--- round 3 reads B, the group with the dot, C and the group with the comma; B puts its group in where I stood
+-- round 3 reads B, the group with the dot, C and the group with the comma; B puts its group in place of I
 abbrev inner_group : Part
 inner_group = at (span 42 49) (pair (token 43 46 (codes ",")) (at (span 47 48) (kind_of dot_group)))
 
@@ -72,14 +72,14 @@ third_round = refl
 fourth_round : new_in 3 ≡ []
 fourth_round = refl
 
--- so three rounds are enough, and two are not: the call of C in the body of B still waits
+-- so three rounds are enough, and two are not: the call of C in the body of B is still on the worklist
 three_are_enough : IsEnded example_value nested 3
 three_are_enough = refl
 
 two_are_not : IsEnded example_value nested 2 → ⊥
 two_are_not h = cc h
 
--- the rules of a round stand in the reverse order of meeting
+-- the rules of a round are in the reverse of the order in which they are reached
 nine_rules : map (λ (r : RuleData). r.name.0) (made_in example_value nested 3) ≡
     codes "C<\"d\">" ∷ (codes "B<\"d\">" ∷ (codes "A<\"d\">"
     ∷ (codes "B<(\".\" \"d\")>" ∷ (codes "(\".\" \"d\")" ∷ (codes "C<(\",\" \"d\")>" ∷ (codes "(\",\" \"d\")"
@@ -91,41 +91,41 @@ two_rounds_make_seven : length (made_symbols example_value nested 2) ≡ 7
 two_rounds_make_seven = refl
 
 -- ---- one rule
--- S = .. ; the macro M<T> = T* stands beside it
+-- S = .. ; the macro M<T> = T* is beside it
 
 abbrev made_from : List Part → ℕ → List Part
 made_from ps count = made_symbols example_value (rules_alone
     (rule (span 0 1) (codes "S") (alternative (span 4 99) [] (parts_of ps) ∷ [])
     ∷ (macro_rule (span 100 104) (codes "M") (codes "T" ∷ []) (alternative (span 107 109) [] (parts_of (at (span 107 109) (starred (at (span 107 108) (name (codes "T")))) ∷ [])) ∷ []) ∷ []))) count
 
--- nothing is made without calls, groups, repeats and lookarounds; a macro that is not called makes nothing
+-- nothing is made without calls, groups, repeats and location symbols; a macro that is not called makes nothing
 nothing_made : made_from (token 4 7 (codes "a") ∷ (at (span 8 9) error_terminal ∷ (at (span 10 13) (chosen (at (span 11 12) (name (codes "S")))) ∷ []))) 3 ≡ []
 nothing_made = refl
 
--- no round makes nothing, and a limit of 0 is kept where nothing waits
+-- no round makes nothing, and a limit of 0 is kept if the worklist is empty
 no_rounds : made_from (at (span 4 8) (starred (token 4 7 (codes "a"))) ∷ []) 0 ≡ []
 no_rounds = refl
 
 without_expansion : IsEnded example_value (rules_alone (rule (span 0 1) (codes "A") (alternative (span 4 7) [] (parts_of (token 4 7 (codes "a") ∷ [])) ∷ []) ∷ [])) 0
 without_expansion = refl
 
--- "a"* "b" "a"*: of two meetings the first counts, and X+ stands where X* was met
+-- "a"* "b" "a"*: of two occurrences the first counts, and X+ is where X* was reached
 met_twice : made_from (at (span 4 8) (starred (token 4 7 (codes "a"))) ∷ (token 9 12 (codes "b") ∷ (at (span 13 17) (starred (token 13 16 (codes "a"))) ∷ []))) 2
     ≡ at (span 4 8) (starred (token 4 7 (codes "a"))) ∷ (at (span 4 8) (plussed (token 4 7 (codes "a"))) ∷ [])
 met_twice = refl
 
--- "a"* "a"+: X+ is met in the first round, so where it is written
+-- "a"* "a"+: X+ is reached in the first round, so where it is written
 plus_written : made_from (at (span 4 8) (starred (token 4 7 (codes "a"))) ∷ (at (span 9 13) (plussed (token 9 12 (codes "a"))) ∷ [])) 2
     ≡ at (span 9 13) (plussed (token 9 12 (codes "a"))) ∷ (at (span 4 8) (starred (token 4 7 (codes "a"))) ∷ [])
 plus_written = refl
 
--- ("a" <"b">)?: the group is met before the repeat, so its rule stands behind it
+-- ("a" <"b">)?: the group is reached before the repeat, and its rule is behind it
 optional_group : made_from (at (span 4 15) (optional (at (span 4 14) (pair (token 5 8 (codes "a")) (at (span 9 14) (chosen (token 10 13 (codes "b"))))))) ∷ []) 1
     ≡ at (span 4 15) (optional (at (span 4 14) (pair (token 5 8 (codes "a")) (at (span 9 14) (chosen (token 10 13 (codes "b")))))))
     ∷ (at (span 4 14) (pair (token 5 8 (codes "a")) (at (span 9 14) (chosen (token 10 13 (codes "b"))))) ∷ [])
 optional_group = refl
 
--- M<("a" "b")>: an argument is met before its call, and not again where it is substituted
+-- M<("a" "b")>: an argument is reached before its call, and not again where it is substituted
 argument_first : made_from (at (span 4 16) (called (codes "M") (at (span 6 15) (pair (token 7 10 (codes "a")) (token 11 14 (codes "b"))))) ∷ []) 2
     ≡ at (span 4 16) (called (codes "M") (at (span 6 15) (pair (token 7 10 (codes "a")) (token 11 14 (codes "b")))))
     ∷ (at (span 6 15) (pair (token 7 10 (codes "a")) (token 11 14 (codes "b")))
@@ -174,7 +174,7 @@ two_readings = refl
 one_text_of_both : kind_text (kind_of named_repeat) ≡ kind_text (kind_of repeated_named)
 one_text_of_both = refl
 
--- the wrapper meets nothing by itself: Y* is met, then the call
+-- the wrapper reaches nothing by itself: Y* is reached, then the call
 named_repeat_meets : met named_repeat ≡ at (span 8 10) (starred (at (span 8 9) (name (codes "Y")))) ∷ (named_repeat ∷ [])
 named_repeat_meets = refl
 

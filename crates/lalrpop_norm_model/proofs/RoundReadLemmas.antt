@@ -1,4 +1,4 @@
--- The rounds of written symbols, compared apart from spans, are the rounds of closed symbols.
+-- The rounds of written symbols, compared up to spans, are the rounds of ground symbols.
 use Rattle.std.proofs.Common.{◌≡◌, ◌↔◌, inl, inr, ℕ, zero, suc, List, [], ◌∷◌, ◌++◌, Bool, true, map, reverse, refl, sym, ap, ap₂, ◌∙◌, subst}
 use Rattle.std.specs.Prelude.{flat_map}
 use Rattle.std.proofs.lemmas.List.{map-append}
@@ -22,7 +22,7 @@ use Rattle.lalrpop_norm_model.proofs.MadeReadLemmas.{flat_of, flat_rules_resolve
 use Rattle.lalrpop_norm_model.proofs.MadeScopeLemmas.{IsMade, start_made, made_rule_scoped, next_made, scoped_in}
 use Rattle.lalrpop_norm_model.proofs.MetReadLemmas.{met_is_read}
 
--- Rounds of things that stay within P, where each thing within P meets, seen through the view, what its view meets.
+-- Rounds of things that stay within P, where each thing within P reaches, seen through the view, what its view reaches.
 module _ {A B : Type 0} (view : A → B) (same : B → B → Bool) (meets : A → List A) (view_meets : B → List B) (P : A → Type 0)
     (agree : (a : A) → P a → map view (meets a) ≡ view_meets (view a)) (within : (a : A) → P a → (b : A) → In b (meets a) → P b)
     (start : List A) (begins : (a : A) → In a start → P a) where

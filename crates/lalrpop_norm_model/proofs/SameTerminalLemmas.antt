@@ -1,4 +1,4 @@
--- Terminals that a test counts as the same are equal, and what stands in a list is found there.
+-- Terminals that a test counts as the same are equal, and what is in a list is found there.
 use Rattle.std.proofs.Common.{◌≡◌, Bool, true, false, ◌||◌, List, [], ◌∷◌, inl, inr, refl, sym, subst}
 use Rattle.std.specs.List.{list_any}
 use Rattle.std.proofs.lemmas.Slice.Eq.{bytes_eq-Decides}
@@ -19,7 +19,7 @@ terminal_itself (Literal l) = literal_itself l
 terminal_itself (Bare a) = (bytes_eq-Decides a a).1 refl
 terminal_itself Error = refl
 
--- what passes a test and stands in a list
+-- what passes a test and is in a list
 pub passes_any : {A : Type 0} (p : A → Bool) (xs : List A) (x : A) → In x xs → p x ≡ true → list_any p xs ≡ true
 passes_any p [] x i h = absurd i
 passes_any p (y ∷ xs) x (inl e) h = let here : p y ≡ true = subst (λ z. p z ≡ true) e h in rw here refl

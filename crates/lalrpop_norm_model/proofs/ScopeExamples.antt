@@ -42,7 +42,7 @@ all_kinds = grammar_of (match_item mapped_names
 abbrev global : List ℕ → Span → Definition → Global
 global n s d = record { name = n; span = s; definition = d }
 
--- rules first, then conversions, then match blocks, wherever they stand; literals, the error terminal and skips give no name
+-- rules first, then conversions, then match blocks, at any span; literals, the error terminal and skips give no name
 all_globals : globals all_kinds ≡
     global (codes "A") (span 80 81) a_rule
     ∷ (global (codes "M") (span 90 96) (a_macro 2)

@@ -126,7 +126,7 @@ module _ (rs : List WrittenRule) (S : IsScoped rs) where
           let both = and_parts (is_scoped rs args p) (are_scoped rs args ps) h in
           (part_resolved before (after + count_parts R.is_own ps) p both.0, parts_resolved (before + count_part R.is_own p) after ps both.1)
 
-  -- ---- own occurrences
+  -- ---- recursive occurrences
 
   either : (r : WrittenRule) (side : Side) (current previous before after : ℕ) → In current (levels_of r.places) → In previous (levels_of r.places) →
       In (bound_at side current previous before after) (levels_of r.places)

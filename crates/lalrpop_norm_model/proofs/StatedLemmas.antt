@@ -1,4 +1,4 @@
--- The level and the side of a place are those stated last.
+-- The level and the associativity of an index are those stated last.
 use Rattle.std.proofs.Common.{◌≡◌, ◌⊎◌, inl, inr, ℕ, zero, suc, ◌+◌, ◌<◌, ◌≤◌, List, [], ◌∷◌, map, take, Option, Some, None, refl, sym, ap, ◌∙◌, arith}
 use Rattle.std.specs.Prelude.{slice_get, option_map, option_and_then, unwrap_or, is_some, if◌then◌else◌}
 use Rattle.lalrpop_norm_tree.specs.Accessors.{or_else}
@@ -8,7 +8,7 @@ use Rattle.lalrpop_norm_model.specs.Levels.{Side, every, level_stated, side_stat
 use Rattle.lalrpop_norm_model.specs.Stated.{level_stated_at, side_stated_at, IsStatedLevel, NoLevelIsStated, IsStatedSide, NoSideIsStated}
 use Rattle.lalrpop_norm_model.specs.Laws.{PlacesAreLeveled, LevelsAreStated, SidesAreStated}
 
--- ---- places by number
+-- ---- indices by number
 
 pub numbered_at : {A B : Type 0} (f : ℕ → A → B) (j : ℕ) (xs : List A) (k : ℕ) → slice_get (map_numbered f j xs) k ≡ option_map (f (j + k)) (slice_get xs k)
 numbered_at f j [] k = refl
@@ -32,7 +32,7 @@ taken_within f (suc n) (x ∷ xs) (suc i) v e = let less : i < n = taken_within 
 
 -- ---- the last one stated
 
--- v is what f says at a place, and f says nothing behind it
+-- v is what f says at an index, and f says nothing behind it
 abbrev pub IsLast : {A B : Type 0} → (A → Option B) → List A → B → Type 0
 IsLast f xs v = (j : ℕ) × (option_and_then f (slice_get xs j) ≡ Some v) × ((i : ℕ) → j < i → option_and_then f (slice_get xs i) ≡ None)
 
@@ -66,7 +66,7 @@ last_of f (x ∷ xs) = last_on f x xs (last_stated (map f xs)) (f x) refl (last_
 
 -- ---- levels
 
--- what is so of the places up to k is so of the places
+-- what holds of the indices up to k holds of the indices
 level_here : (ps : PlacedAlternatives) (k i : ℕ) → i ≤ k → level_stated_at (up_to k ps) i ≡ level_stated_at ps i
 level_here ps k i le = ap (option_and_then level_stated) (taken_at (suc k) ps i (omega arith))
 
@@ -84,15 +84,15 @@ level_by ps k (Some v) h =
 pub levels_are_stated : LevelsAreStated
 levels_are_stated ps k = level_by ps k (last_stated (map level_stated (up_to k ps))) (last_of level_stated (up_to k ps))
 
--- ---- sides
+-- ---- associativities
 
--- the last side since the last level; where there is none, a level stands behind each side
+-- the last associativity since the last level; if there is none, a level is behind each associativity
 abbrev SideOf : PlacedAlternatives → Option Side → Type 0
 SideOf ps (Some s) =
     (j : ℕ) × (side_stated_at ps j ≡ Some s) × ((i : ℕ) → j < i → (side_stated_at ps i ≡ None) × (level_stated_at ps i ≡ None))
 SideOf ps None = (j : ℕ) (s : Side) → side_stated_at ps j ≡ Some s → (i : ℕ) × (l : ℕ) × (j < i) × (level_stated_at ps i ≡ Some l)
 
--- a level is stated further on: what stands before it is no matter
+-- a level is stated further on: what is before it does not matter
 side_on : (p : Option AlternativeData) (ps : PlacedAlternatives) (l : ℕ) → IsLast level_stated ps l → (o : Option Side) → SideOf ps o → SideOf (p ∷ ps) o
 side_on p ps l last (Some s) h = (suc h.0, h.1, later)
   where
@@ -106,7 +106,7 @@ side_on p ps l last None h = all
     all (suc j) s e =
         let (i, m, lt, at) = h j s e in (suc i, m, omega arith, at)
 
--- no level is stated after the first place: all sides count
+-- no level is stated after the first index: all associativities count
 side_first : (p : Option AlternativeData) (ps : PlacedAlternatives) → IsSilent level_stated ps → (o : Option Side) → LastOf side_stated (p ∷ ps) o → SideOf (p ∷ ps) o
 side_first p ps none (Some s) h = (h.0, h.1, later)
   where

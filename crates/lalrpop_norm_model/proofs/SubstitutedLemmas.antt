@@ -45,7 +45,7 @@ module _ (Q R : Reader) (same : (n : Name) (b a before after : ℕ) → read_nam
         (part_agrees b (a + count_parts Q.is_own ps) before (after + count_parts R.is_own ps) p)
         (parts_agree (b + count_part Q.is_own p) a (before + count_part R.is_own p) after ps)
 
--- what stands before and after counts for nothing where no reference has a bound
+-- what is before and after counts for nothing where no reference has a bound
 pub flat_part : (b a before after : ℕ) (p : Part) → read_part flat_reader b a p ≡ read_part flat_reader before after p
 flat_part = part_agrees flat_reader flat_reader (λ n b a before after. refl)
 

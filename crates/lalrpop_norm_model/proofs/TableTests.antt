@@ -10,7 +10,7 @@ use Rattle.lalrpop_norm_model.specs.TypeTables.{Table, clause_value, IsSound, Is
 use Rattle.lalrpop_norm_model.specs.TypeRounds.{TypeRow, table_of}
 use Rattle.lalrpop_norm_model.proofs.TypeLemmas.{clause_makes, table_is, closed_functional}
 
--- ---- rules that meet a table
+-- ---- rules that satisfy a table
 
 -- what is made of a table, and the table's own, agree: the first is absent, or it is the second
 abbrev pub Agrees : Option ReprData → Option ReprData → Type 0

@@ -1,4 +1,4 @@
--- The text of a closed symbol without bounds is the displayed text.
+-- The text of a ground symbol without bounds is the displayed text.
 use Rattle.std.proofs.Common.{◌≡◌, ℕ, ◌+◌, ◌∷◌, ◌++◌, refl, ap, ap₂}
 use Rattle.std.specs.Prelude.{codes, Option, None}
 use Rattle.lalrpop_norm_tree_names.specs.declared.names.TerminalString.{TerminalString}

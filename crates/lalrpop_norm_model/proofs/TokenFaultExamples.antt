@@ -1,4 +1,4 @@
--- Where the pass on tokens refuses small grammars, found by hand.
+-- The errors of the pass on tokens in small grammars, found by hand.
 use Rattle.std.proofs.Common.{◌≡◌, ℕ, List, [], ◌∷◌, Some, None, codes, refl}
 use Rattle.lalrpop_norm_tree_names.specs.declared.names.Span.{Span}
 use Rattle.lalrpop_norm_tree_names.specs.declared.names.TerminalLiteral.TheVariants.{Quoted, Regex}
@@ -20,7 +20,7 @@ use Rattle.lalrpop_norm_model.proofs.ExampleGrammars.{nowhere, quoted, plain, a_
 abbrev place : ℕ → Span
 place k = record { 0 = k; 1 = k }
 
--- a rule that chooses a terminal, which stands at a place of its own
+-- a rule that selects a terminal, which has a span of its own
 abbrev uses : ℕ → Kind → RuleData
 uses k t = a_rule (codes "S") None (plain (chosen (at (place k) t) ∷ []) ∷ [])
 
@@ -48,7 +48,7 @@ without_conversion : token_faults (of_rules (tok_tokens (codes "a" ∷ codes "a"
     ≡ (TerminalTwice, nowhere) ∷ (NoPattern, place 7) ∷ []
 without_conversion = refl
 
--- `'input` and `input` are refused beside internal tokens alone
+-- `'input` and `input` are errors only with internal tokens
 abbrev with_input : GrammarData → GrammarData
 with_input g = record g { type_parameters = parameter.Lifetime (record { 0 = codes "'input" }) ∷ []; parameters = record { name = codes "input"; type = id (codes "T") } ∷ [] }
 
@@ -58,7 +58,7 @@ declared_inside = refl
 declared_outside : token_faults (with_input (of_rules (tok_tokens [] ∷ []) [])) ≡ []
 declared_outside = refl
 
--- beside an enum a bare terminal without a conversion is told as any other
+-- beside an enum a bare terminal without a conversion is reported as any other
 bare_without_conversion : token_faults (of_rules (tok_tokens (codes "a" ∷ []) ∷ []) (uses 7 (terminal (Bare (codes "x"))) ∷ [])) ≡ (NoPattern, place 7) ∷ []
 bare_without_conversion = refl
 
@@ -100,6 +100,6 @@ converted_with_f = refl
 converted_once : token_faults (of_rules (extern_tokens [] (conversion_at (span 29 41) (codes "a") ∷ []) ∷ []) (of_quoted (span 53 56) (codes "a") ∷ [])) ≡ []
 converted_once = refl
 
--- a repeated literal is told before the name that its item repeats
+-- a repeated literal is reported before the name that its item repeats
 literal_first : first (token_faults (of_rules (match_tokens ((Unmapped (Quoted (codes "a")) (place 1) ∷ Unmapped (Quoted (codes "a")) (place 2) ∷ []) ∷ []) ∷ []) [])) ≡ Some (LiteralTwice, place 2)
 literal_first = refl

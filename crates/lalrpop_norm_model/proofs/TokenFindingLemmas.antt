@@ -1,4 +1,4 @@
--- What the pass on tokens may tell, and that what it makes of a grammar has the entries.
+-- What the pass on tokens may report, and that what it makes of a grammar has the entries.
 use Rattle.std.proofs.Common.{◌≡◌, ◌⊎◌, List, [], ◌∷◌, ◌++◌, map, Option, Some, None, inl, inr, refl, ap, ◌∙◌}
 use Rattle.lalrpop_norm_tree.specs.Items.{EnumTokenData, GrammarData}
 use Rattle.lalrpop_norm_faults.specs.Faults.{Fault, first, sure, maybe, sure_ones, MayBeTold}
@@ -22,13 +22,13 @@ sure_case None g =
 pub sure_findings : (g : GrammarData) → sure_ones (token_findings g) ≡ token_faults g
 sure_findings g = sure_case (extern_enum g) g
 
--- ---- what may be told
+-- ---- what may be reported
 
 told_first : {P : Type 0} (At : P → Fault → Type 0) (fs : List Fault) (f : Fault) → MayBeTold At (map sure fs) f → first fs ≡ Some f
 told_first At [] f h = absurd h
 told_first At (g ∷ fs) f h = ap Some h
 
--- of faults before a place, and others after it
+-- of faults before a point of the search, and others after it
 told_around : {P : Type 0} (At : P → Fault → Type 0) (before : List Fault) (p : P) (after : List Fault) (f : Fault) →
     MayBeTold At (map sure before ++ maybe p ∷ map sure after) f → (first (before ++ after) ≡ Some f) ⊎ ((before ≡ []) × At p f)
 told_around At [] p after f (inl h) = inr (refl, h)
@@ -47,8 +47,8 @@ told_case l None g f h =
     told_beside None (entry_faults g ++ input_faults g) (entry_faults g) f (LexerRefuses l g f) refl
     (told_around (StandsAtLexer l g) (entry_faults g) at_lexer (input_faults g) f h)
 
--- What the pass may tell is the first fault that needs no lexer; or it is a true refusal of the lexer, tokens are internal, and
--- nothing is wrong with the match block and the terminals used.
+-- What the pass may report is the first fault that needs no lexer; or it is an error of the lexer that holds, tokens are
+-- internal, and nothing is wrong with the match block and the terminals used.
 pub told_of_tokens : {R : Type 0} (l : Lexer R) (g : GrammarData) (f : Fault) → MayBeTold (StandsAtLexer l g) (token_findings g) f →
     (first (token_faults g) ≡ Some f) ⊎ ((extern_enum g ≡ None) × (entry_faults g ≡ []) × LexerRefuses l g f)
 told_of_tokens l g f h = told_case l (extern_enum g) g f h

@@ -1,4 +1,4 @@
--- The whole of inference: a grammar is typable exactly where none of its faults stands.
+-- The whole of inference: a grammar is typable if and only if none of its faults holds.
 use Rattle.std.proofs.Common.{◌≡◌, ◌↔◌, false, List, [], ◌∷◌, ◌++◌, map, flat_map, refl, ap}
 use Rattle.lalrpop_norm_tree.specs.Items.{AlternativeData, RuleData, GrammarData}
 use Rattle.lalrpop_norm_theory.specs.Rounds.{In, IsDistinct}
@@ -53,7 +53,7 @@ none_of_four ws xs ys zs e =
     let a = both_empty ws xs b.0 in
     (a.0, a.1, b.1, c.1)
 
--- a grammar of distinct names is typable exactly where there is no fault of inference
+-- a grammar of distinct names is typable if and only if there is no fault of inference
 pub typable_exactly : (g : GrammarData) → IsDistinct (rule_names g) → IsTypable g ↔ (inference_faults g ≡ [])
 typable_exactly g distinct = (
   λ h.

@@ -38,7 +38,7 @@ own_had = had_by own [] tt _ _ tok (inl refl) (inr (inl refl)) refl
 own_types : Typing own ((codes "X", tok) ∷ [])
 own_types = typing own ((codes "X", tok) ∷ []) (own_had, tt) ((refl, (refl, tt)), tt) (refl, tt)
 
--- `X = Y Z; Y: Foo = "Hi"; Z = "Ho";`: a declared type stands, whatever its alternatives give.
+-- `X = Y Z; Y: Foo = "Hi"; Z = "Ho";`: a declared type counts, whatever its alternatives give.
 abbrev declared : GrammarData
 declared = of_rules (tok_tokens (codes "Hi" ∷ codes "Ho" ∷ []) ∷ [])
     (a_rule (codes "X") None (plain (nonterminal (codes "Y") ∷ nonterminal (codes "Z") ∷ []) ∷ [])
@@ -164,7 +164,7 @@ tuples_types = typing tuples tuples_rows (
 )
     ((refl, tt), ((refl, tt), ((refl, tt), ((refl, tt), tt)))) (refl, (refl, (refl, (refl, tt))))
 
--- Chosen symbols alone are sources, and an alternative with code is none: `C = {"a" <"b">, "c" => ..}; D = <"a"> "b" <"c">;`.
+-- Selected symbols alone are sources, and an alternative with code is none: `C = {"a" <"b">, "c" => ..}; D = <"a"> "b" <"c">;`.
 abbrev choices : GrammarData
 choices = of_rules (tok_tokens (codes "a" ∷ codes "b" ∷ codes "c" ∷ []) ∷ [])
     (a_rule (codes "C") None (plain (literal (codes "a") ∷ choose (literal (codes "b")) ∷ []) ∷ coded (codes "5") (literal (codes "c") ∷ literal (codes "c") ∷ []) ∷ [])

@@ -102,8 +102,8 @@ circle_none n = none_had circle (table_of [])
 circle_partial : IsTotal circle → ⊥
 circle_partial total = let a = total _ (inl refl) in circle_none _ a.0 a.1
 
--- The alternative of a lookaround gives no type where no location is declared: a rule L of that one has none, a rule X of it and `"x"`
--- that of `"x"`.
+-- The alternative of a location symbol gives no type where no location is declared: a rule L of that one has none, a rule X of it
+-- and `"x"` that of `"x"`.
 abbrev nowhere_located : GrammarData
 nowhere_located = of_rules (tok_tokens (codes "x" ∷ []) ∷ [])
     (a_rule (codes "L") None (with_code (Some lookahead_code) [] ∷ [])
@@ -186,7 +186,7 @@ foo_is_not h =
     let is : pattern_fits (several (pair (one (codes "a")) (one (codes "b")))) p.type ≡ true = p.fitting in
     cc
 
--- ---- where inference refuses
+-- ---- the errors of inference
 
 -- `A C` disagrees with the token that B has by `"y"`
 disagreeing_place : disagreeing_alternatives disagreeing ≡ plain (nonterminal (codes "A") ∷ nonterminal (codes "C") ∷ []) ∷ []

@@ -44,7 +44,7 @@ of_rules f (use_item u ∷ items) r h = let (e, j, k) = of_rules f items r h in 
 
 -- ---- levels of one rule
 
--- a list of numbers in which nothing but 0 stands, rising, has one at most
+-- a list of numbers in which nothing but 0 is, rising, has one at most
 one_at_most : (ls : List ℕ) → IsRising ls → ((l : ℕ) → In l ls → l ≡ 0) → length ls ≤ 1
 one_at_most [] r z = omega arith
 one_at_most (l ∷ []) r z = omega arith

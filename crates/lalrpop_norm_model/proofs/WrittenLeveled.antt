@@ -1,4 +1,4 @@
--- The grammar with levels is that of the written grammar with its holes, by the written numbers.
+-- The grammar with levels is that of the written grammar with its holes, by the written indices.
 use Rattle.std.proofs.Common.{◌≡◌, ℕ, zero, suc, List, [], ◌∷◌, map, Option, Some, None, refl, sym, ap, ap₂, ◌∙◌, subst, arith}
 use Rattle.std.specs.Prelude.{slice_get, option_map, unwrap_or}
 use Rattle.std.proofs.Math.Path.{fun_ext}
@@ -43,7 +43,7 @@ pub names_written : (fs : Features) (g : GrammarData) → level_names (leveled_r
 names_written fs g =
     fun_ext (λ n. fun_ext (λ m. ap (λ xs. level_names xs n m) (disabled_are_left_out fs g) ∙ level_closed (written_rules fs g) n m))
 
--- ---- places of ranks
+-- ---- indices of ranks
 
 place_ranked : {A : Type 0} (ps : List (Option A)) (k : ℕ) (a : A) → slice_get ps k ≡ Some (Some a) → place_in ps (rank_in ps k) ≡ k
 place_ranked [] k a h = absurd (grind arith)

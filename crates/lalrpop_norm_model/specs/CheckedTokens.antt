@@ -1,4 +1,4 @@
--- What the pass on tokens makes of a grammar of plain rules.
+-- What the pass on tokens makes of an expanded grammar.
 use Rattle.std.specs.Prelude.{◌≡◌, ℕ, false, List, [], ◌∷◌, ◌++◌, map, Option, Some, None, codes}
 use Rattle.std.specs.List.{AllZip}
 use Rattle.lalrpop_norm_tree_names.specs.declared.names.TypeParameter.TheVariants as parameter
@@ -13,7 +13,7 @@ use Rattle.lalrpop_norm_model.specs.TerminalTypes.{extern_enum, input_lifetime}
 abbrev pub input_parameter : ParameterData
 input_parameter = record { name = codes "input"; type = reference (Some input_lifetime) false (id (codes "str")) }
 
--- the grammar with internal tokens: they stand last, `'input` is the first type parameter and `input` the last parameter
+-- the grammar with internal tokens: they are last, `'input` is the first type parameter and `input` the last parameter
 abbrev pub with_tokens : InternTokenData → GrammarData → GrammarData
 with_tokens t g = record g {
   type_parameters = parameter.Lifetime input_lifetime ∷ g.type_parameters;

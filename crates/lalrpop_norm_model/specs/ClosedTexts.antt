@@ -1,4 +1,5 @@
--- The text of a closed symbol: as it is displayed, with arguments substituted and each bounded reference as the name of its level.
+-- The text of a ground symbol: as it is displayed, with arguments substituted and each bounded reference as the name of its
+-- level.
 use Rattle.std.specs.Prelude.{ℕ, Bool, List, [], ◌∷◌, ◌++◌, Option, Some, None, codes, decimal, nat_eq}
 use Rattle.std.specs.Prelude.{if◌then◌else◌}
 use Rattle.lalrpop_norm_tree_names.specs.Texts.{escape, joined}
@@ -51,7 +52,7 @@ abbrev mutual
   closed_texts name no_symbols = []
   closed_texts name (symbol_and g gs) = closed_text name g ∷ closed_texts name gs
 
--- the highest level keeps the rule's name, any other has its number behind it, in decimal
+-- the highest level keeps the rule's name; the name of any other ends in its number, in decimal
 abbrev pub level_name : Name → ℕ → ℕ → Name
 level_name n highest l = if nat_eq l highest then n else n ++ decimal l
 

@@ -4,18 +4,18 @@ use Rattle.lalrpop_norm_tree.specs.Items.{AlternativeData, RuleData, EnumTokenDa
 use Rattle.lalrpop_norm_tree.specs.Items.{match_item, extern_item, intern_item, rule_item, use_item}
 use Rattle.lalrpop_norm_model.specs.Features.{Features, is_active}
 
--- The alternatives of a rule by the numbers of their written places, from 0: at each place the alternative, if it is enabled.
+-- The alternatives of a rule by their written indices, from 0: at each index the alternative, if it is enabled.
 abbrev pub PlacedAlternatives : Type 0
 PlacedAlternatives = List (Option AlternativeData)
 
 abbrev pub if_active : Features → AlternativeData → Option AlternativeData
 if_active fs a = if is_active fs a.attributes then Some a else None
 
--- the enabled alternatives at their written places
+-- the enabled alternatives at their written indices
 abbrev pub enabled_places : Features → RuleData → PlacedAlternatives
 enabled_places fs r = map (if_active fs) r.alternatives
 
--- each alternative at its place, whatever its attributes say
+-- each alternative at its index, whatever its attributes say
 abbrev pub all_places : RuleData → PlacedAlternatives
 all_places r = map Some r.alternatives
 

@@ -24,7 +24,7 @@ use Rattle.lalrpop_norm_model.specs.Terminals.{literal_cmp, terminal_cmp, termin
 abbrev pub match_block : GrammarData → Option MatchTokenData
 match_block g = first_of match_token_of g.items
 
--- Group i of n, from 0, has the precedence n minus i. So many groups there are from it on: these, of which it is the first.
+-- Group i of n, from 0, has the precedence n minus i. That is the number of groups from it on, itself included.
 abbrev pub precedence_of : List (List MatchItem) → ℕ
 precedence_of groups = length groups
 
@@ -99,7 +99,7 @@ pub data IsEntry (g : GrammarData) : MatchEntry → Type 0 where
       (In (Literal l) (user_names (match_entries g)) → ⊥) →
       catch_all g ≡ Some precedence → IsEntry g (entry_in precedence l (own_mapping l))
 
--- terminals stand before what is skipped
+-- terminals come before what is skipped
 abbrev pub mapping_cmp : MatchMapping → MatchMapping → Ordering
 mapping_cmp (Terminal t) (Terminal u) = terminal_cmp t u
 mapping_cmp (Terminal t) Skip = Less

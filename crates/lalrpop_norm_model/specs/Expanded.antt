@@ -25,14 +25,15 @@ use Rattle.lalrpop_norm_model.specs.Terminals.{terminals_used}
 use Rattle.lalrpop_norm_model.specs.TerminalTypes.{chosen_in_pattern, extern_enum, intern_entries}
 use Rattle.lalrpop_norm_model.specs.TypeRelation.{IsRule}
 
--- ---- plain symbols, and the names in them
+-- ---- symbols of an expanded grammar (plain symbols), and the names in them
 
 abbrev pub is_plain_terminal : TerminalString → Bool
 is_plain_terminal (Literal l) = true
 is_plain_terminal (Bare a) = true
 is_plain_terminal Error = false
 
--- a plain symbol, under chosen, named and tuple wrappers: a terminal other than the error terminal, a nonterminal, or `!`
+-- a symbol of an expanded grammar (a plain one), under selected, named and tuple wrappers: a terminal other than the error
+-- terminal, a nonterminal, or `!`
 abbrev mutual
   pub is_plain_kind : Kind → Bool
   is_plain_kind (terminal t) = is_plain_terminal t
@@ -80,7 +81,7 @@ names_in_parts (part_and p ps) = names_in p ++ names_in_parts ps
 
 -- ---- symbols in types
 
--- the symbols whose types stand in a type
+-- the symbols whose types are in a type
 abbrev mutual
   pub symbols_in : TypeData → List Kind
   symbols_in (of_symbol k) = k ∷ []
@@ -201,7 +202,7 @@ pub record IsExpanded (g : GrammarData) : Type 0 where
   -- nothing names the error terminal
   pub no_error_converted : In Error (converted g) → ⊥
   pub no_error_mapped : In Error (mapped_terminals g) → ⊥
-  -- an extern enum stands alone, and there is at most one of each
+  -- beside an extern enum there is neither of the others, and there is at most one of each
   pub one_enum : length (enums g) ≤ 1
   pub one_match : length (match_blocks g) ≤ 1
   pub one_intern : length (interns g) ≤ 1

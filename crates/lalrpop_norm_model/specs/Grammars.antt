@@ -44,7 +44,7 @@ abbrev pub own_bound_in : WrittenRule → Leveled → ℕ → ℕ → Option ℕ
 own_bound_in r a before after =
     if r.has_levels then Some (own_bound a.side a.level (previous_level r.places a.level) before after) else None
 
--- an alternative of a rule is read without arguments, its own occurrences with the bounds of its level and side
+-- an alternative of a rule is read without arguments, its recursive occurrences with the bounds of its level and associativity
 abbrev pub rule_reader : List WrittenRule → WrittenRule → Leveled → Reader
 rule_reader rs r a = record {
   argument = λ n. None;
@@ -53,7 +53,7 @@ rule_reader rs r a = record {
   bound = λ n. bound_of (rule_named rs n);
 }
 
--- the symbols of what stands at a place, if it is an alternative whose level passes
+-- the symbols of what is at an index, if it is an alternative whose level passes
 abbrev pub parts_at : List WrittenRule → WrittenRule → (ℕ → Bool) → Option (Option Leveled) → Option ClosedSymbols
 parts_at rs r passes (Some (Some a)) = if passes a.level then Some (read_all (rule_reader rs r a) a.alternative.parts) else None
 parts_at rs r passes (Some None) = None
@@ -80,7 +80,7 @@ depth_of (Some r) b = level_within r b
 
 -- ---- macros
 
--- the arguments of a macro, each bound to a closed symbol
+-- the arguments of a macro, each bound to a ground symbol
 abbrev pub bound_argument : List NonterminalString → ClosedSymbols → Name → Option ClosedSymbol
 bound_argument (a ∷ rest) (symbol_and g gs) n = if bytes_eq a.0 n then Some g else bound_argument rest gs n
 bound_argument _ _ n = None
@@ -98,8 +98,8 @@ macro_reader rs r args = record {
 abbrev pub ConditionValue : Type 0
 ConditionValue = ConditionOp → Name → Name → Bool
 
--- A condition says what its operator says of the quoted literal that its left side is bound to. One on anything else, which
--- is refused, is false.
+-- A condition says what its operator says of the quoted literal that its left operand is bound to. One on anything else, which is
+-- an error, is false.
 abbrev pub value_of : ConditionValue → Condition → Option ClosedSymbol → Bool
 value_of value c (Some (terminal (quoted text))) = value c.op text c.rhs
 value_of value c _ = false
@@ -117,7 +117,7 @@ instance_at value rs r args (Some (Some a)) =
 instance_at value rs r args (Some None) = None
 instance_at value rs r args None = None
 
--- one closed symbol for each argument
+-- one ground symbol for each argument
 abbrev pub arguments_fit : List NonterminalString → ClosedSymbols → Bool
 arguments_fit [] no_symbols = true
 arguments_fit (a ∷ rest) (symbol_and g gs) = arguments_fit rest gs

@@ -1,4 +1,4 @@
--- Where inference refuses: its faults in the order of looking.
+-- All errors of inference, in visiting order.
 use Rattle.std.specs.Prelude.{Bool, true, false, not, List, [], ◌∷◌, ◌++◌, map, filter, flat_map, Option, Some, None}
 use Rattle.std.specs.Prelude.{is_none, if◌then◌else◌}
 use Rattle.lalrpop_norm_tree.specs.Items.{AlternativeData, RuleData, GrammarData}
@@ -13,7 +13,7 @@ use Rattle.lalrpop_norm_model.specs.TypeTables.{Table, clause_value}
 use Rattle.lalrpop_norm_model.specs.TypeRounds.{table_of, inferred}
 use Rattle.lalrpop_norm_model.specs.TuplePatterns.{pattern_misfits}
 
--- ---- rules that nothing gives a type
+-- ---- rules for which no type is derivable
 
 abbrev pub is_undeclared : RuleData → Bool
 is_undeclared r = is_none r.type_decl
@@ -22,7 +22,7 @@ is_undeclared r = is_none r.type_decl
 abbrev pub undeclared : GrammarData → List RuleData
 undeclared g = filter is_undeclared (all_rules g)
 
--- no alternatives at all; or some, none of which is a default or a lookaround one
+-- no alternatives at all; or some, none of which is a default one or a location symbol
 abbrev pub lack_of : RuleData → List AlternativeData → List Fault
 lack_of r [] = (NoAlternatives, r.span) ∷ []
 lack_of r (a ∷ rest) = (OnlyCoded, a.span) ∷ []
@@ -41,7 +41,7 @@ inferred_table g = table_of (inferred g)
 abbrev pub untyped_rules : GrammarData → List RuleData
 untyped_rules g = filter (λ r. is_none (inferred_table g r.name.0)) (all_rules g)
 
--- a type is given, and it is not the one that stands
+-- a type is given, and it is not the type that the rule has
 abbrev pub is_other : Option ReprData → Option ReprData → Bool
 is_other None v = false
 is_other (Some x) None = true

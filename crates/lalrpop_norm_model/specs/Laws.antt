@@ -62,13 +62,13 @@ abbrev pub MeaningsHaveLevels : Type 0
 MeaningsHaveLevels =
     (value : ConditionValue) (rs : List WrittenRule) → HasCounts (meaning value rs) × HasLevels (meaning value rs)
 
--- Where each name has a meaning, the references that the rules declare are closed: they lead to declared ones alone.
+-- If each name has a meaning, the references that the rules declare are closed: they lead only to declared ones.
 abbrev pub MeaningsAreResolved : Type 0
 MeaningsAreResolved =
     (value : ConditionValue) (rs : List WrittenRule) → IsScoped rs → IsResolved (meaning value rs) (references rs)
 
--- Of the rules that a grammar is read as, only the names are to be looked at: where these have a meaning, the rules are scoped.
--- And a rule without levels has no two levels.
+-- Of the rules that a grammar is read as, only the names matter: if these have a meaning, the rules are scoped. A rule without
+-- levels has no two levels.
 abbrev pub AreScopedByNames : List WrittenRule → Type 0
 AreScopedByNames rs =
     (NamesAreScoped rs → IsScoped rs)
@@ -78,7 +78,7 @@ abbrev pub ScopedAsWritten : Type 0
 ScopedAsWritten = (fs : Features) (g : GrammarData) →
     AreScopedByNames (written_rules fs g) × AreScopedByNames (leveled_rules g) × AreScopedByNames (flat_rules g)
 
--- The text of a closed symbol without bounds is the text that its written symbol is displayed with.
+-- The text of a ground symbol without bounds is the text that its written symbol is displayed with.
 abbrev pub TextsAreDisplayed : Type 0
 TextsAreDisplayed = (k : Kind) → closed_text (λ n b. n) (read_kind flat_reader 0 0 k) ≡ kind_text k
 
@@ -97,36 +97,36 @@ PreviousIsBelow = (ps : List (Option Leveled)) (l m : ℕ) → (previous_level p
 abbrev pub HighestIsGreatest : Type 0
 HighestIsGreatest = (ps : List (Option Leveled)) (l : ℕ) → HasLevel ps l → IsHighest ps (highest_level ps)
 
--- An enabled alternative at place k has the level and the side of that place.
+-- An enabled alternative at index k has the level and the associativity of that index.
 abbrev pub PlacesAreLeveled : Type 0
 PlacesAreLeveled = (ps : PlacedAlternatives) (k : ℕ) → slice_get (with_levels ps) k ≡ option_map (leveled_at ps k) (slice_get ps k)
 
--- The level of place k is the one stated last at or before it; without any it is 0.
+-- The level of index k is the one stated last at or before it; 0 if there is none.
 abbrev pub LevelsAreStated : Type 0
 LevelsAreStated =
     (ps : PlacedAlternatives) (k : ℕ) → IsStatedLevel ps k (level_at ps k) ⊎ (NoLevelIsStated ps k × (level_at ps k ≡ 0))
 
--- The side of place k is the one stated last at or before it and not before its level; without any it is every side.
+-- The associativity of index k is the one stated last at or before it and not before its level; `all` if there is none.
 abbrev pub SidesAreStated : Type 0
 SidesAreStated =
     (ps : PlacedAlternatives) (k : ℕ) → IsStatedSide ps k (side_at ps k) ⊎ (NoSideIsStated ps k × (side_at ps k ≡ every))
 
--- Levels and sides are handed on from place to place, from the first one on.
+-- Levels and associativities are inherited from index to index, from the first one on.
 abbrev pub LevelsAreHandedOn : Type 0
 LevelsAreHandedOn = (ps : PlacedAlternatives) → with_levels ps ≡ handed_on None None ps
 
--- Alternatives that are not enabled are no matter for levels and sides: with these taken out the others keep theirs.
+-- Disabled alternatives do not matter for levels and associativities: without them the others keep theirs.
 abbrev pub DisabledAreNoMatter : Type 0
 DisabledAreNoMatter = (ps : PlacedAlternatives) → present (with_levels ps) ≡ present (with_levels (map Some (present ps)))
 
--- The own occurrences in an alternative with a level below its own have, in their order, the bounds of its side.
+-- The recursive occurrences in an alternative with a level below its own have, in order, the bounds of its associativity.
 abbrev pub BoundsAreBySide : Type 0
 BoundsAreBySide = (rs : List WrittenRule) (r : WrittenRule) (a : Leveled) (previous : ℕ) → r.has_levels ≡ true →
     previous_level r.places a.level ≡ Some previous → are_scoped rs r.args a.alternative.parts ≡ true →
     all_bounds_to r.name (read_all (rule_reader rs r a) a.alternative.parts)
     ≡ map Some (bounds_by a.side a.level previous (count_parts (λ n. bytes_eq n r.name) a.alternative.parts))
 
--- An alternative of a macro is there for arguments that fit exactly where its condition is true.
+-- An alternative of a macro is there, for arguments that fit, if and only if its condition is true.
 abbrev pub ConditionsDecide : Type 0
 ConditionsDecide =
     (value : ConditionValue) (rs : List WrittenRule) (n : Name) (r : WrittenRule) (args : ClosedSymbols)
@@ -138,14 +138,14 @@ ConditionsDecide =
 
 -- ---- enabled and resolved
 
--- The alternatives of an enabled rule are the active ones in order; and its places keep their numbers.
+-- The alternatives of an enabled rule are the active ones in order; and its indices stay.
 abbrev pub EnabledAreActive : Type 0
 EnabledAreActive = (fs : Features) (r : RuleData) →
     ((enabled_rule fs r).alternatives ≡ filter (λ a. is_active fs a.attributes) r.alternatives)
     × ((k : ℕ) (a : AlternativeData) → (slice_get (enabled_places fs r) k ≡ Some (Some a))
     ↔ ((slice_get r.alternatives k ≡ Some a) × (is_active fs a.attributes ≡ true)))
 
--- Resolving twice is resolving once.
+-- Resolving names is idempotent.
 abbrev pub ResolvedOnce : Type 0
 ResolvedOnce = (g : GrammarData) → resolved_grammar (resolved_grammar g) ≡ resolved_grammar g
 
@@ -156,7 +156,7 @@ abbrev pub DisabledAreLeftOut : Type 0
 DisabledAreLeftOut =
     (fs : Features) (g : GrammarData) → leveled_rules (prepared_grammar fs g) ≡ map closed_up (written_rules fs g)
 
--- The rank of a place is the number of enabled alternatives written before it.
+-- The rank of an index is the number of enabled alternatives written before it.
 abbrev pub RanksCountEnabled : Type 0
 RanksCountEnabled = (fs : Features) (ds : List Global) (r : RuleData) (k : ℕ) →
     rank_in (written_rule_with_levels ds r (enabled_places fs r)).places k
@@ -171,13 +171,13 @@ DisabledOnlyRenumber = (value : ConditionValue) (fs : Features) (g : GrammarData
     × (references (leveled_rules (prepared_grammar fs g)) ≡ references (written_rules fs g))
     × (roots (leveled_rules (prepared_grammar fs g)) ≡ roots (written_rules fs g))
 
--- Each closed symbol has the same clauses in the same order, where an alternative's clause has its rank for its number.
+-- Each ground symbol has the same clauses in the same order, where an alternative's clause has its rank for its number.
 abbrev pub ClausesOnlyRenumber : Type 0
 ClausesOnlyRenumber = (value : ConditionValue) (fs : Features) (g : GrammarData) (x : ClosedSymbol) →
     clauses (meaning value (leveled_rules (prepared_grammar fs g))) x
     ≡ map (ranked_clause (rank_by (written_rules fs g))) (clauses (meaning value (written_rules fs g)) x)
 
--- The written trees of each closed symbol stand one to one with its trees in the grammar that the pass on levels gets: the
+-- The written trees of each ground symbol correspond one to one with its trees in the grammar that the pass on levels gets: the
 -- number of each node becomes its rank, and all else stays.
 abbrev pub TreesOnlyRenumber : Type 0
 TreesOnlyRenumber = (value : ConditionValue) (fs : Features) (g : GrammarData) →
@@ -198,7 +198,7 @@ LevelRulesAreRead =
     ≡ map (λ c. leveled_symbols (level_names (leveled_rules g)) c.parts)
     (clauses (meaning value (leveled_rules g)) (reference d.name.0 (Some l)))
 
--- The grammar with levels is that of the written grammar, as the theory of trees has it: place by place its rules hold the
+-- The grammar with levels is that of the written grammar, as the theory of trees has it: index by index its rules hold the
 -- clauses of the levels, calls have the same clauses, and each alternative has its origin. And macros keep their numbers.
 abbrev pub GrammarsAreLeveled : Type 0
 GrammarsAreLeveled = (value : ConditionValue) (g : GrammarData) → HasLevelNames g →
@@ -210,7 +210,7 @@ GrammarsAreLeveled = (value : ConditionValue) (g : GrammarData) → HasLevelName
     × ((n : Name) → (meaning value (flat_rules (leveled_grammar g))).call_count n
     ≡ (meaning value (leveled_rules g)).call_count n)
 
--- So it is that of the written grammar with its holes, by the written numbers.
+-- It is also that of the written grammar with its holes, by the written indices.
 abbrev pub WrittenGrammarsAreLeveled : Type 0
 WrittenGrammarsAreLeveled = (value : ConditionValue) (fs : Features) (g : GrammarData) →
     HasLevelNames (prepared_grammar fs g) →
@@ -218,7 +218,7 @@ WrittenGrammarsAreLeveled = (value : ConditionValue) (fs : Features) (g : Gramma
     (level_names (written_rules fs g)) (written_origin value (written_rules fs g)) (references (written_rules fs g))
 
 -- Of a grammar whose levels can become rules: with a lowered grammar that realizes the symbols of the grammar with levels, the
--- trees of each resolved symbol pair in two steps, from bounds to levels and from levels to the lowered grammar.
+-- trees of each resolved symbol correspond in two steps, from bounds to levels and from levels to the lowered grammar.
 abbrev pub LevelsAreSteps : Type 0
 LevelsAreSteps = (value : ConditionValue) (g : GrammarData) → HasLevelNames g →
     (name : ClosedSymbol → Name) (P : ProductionTable) (declared met : List ClosedSymbol) →
@@ -228,8 +228,8 @@ LevelsAreSteps = (value : ConditionValue) (g : GrammarData) → HasLevelNames g 
     PairsInTwoSteps (meaning value (leveled_rules g)) (meaning value (flat_rules (leveled_grammar g)))
     (level_names (leveled_rules g)) (level_origin value g) name P x
 
--- Of a grammar whose levels can become rules once it is prepared: with a lowered grammar that realizes the symbols of its
--- grammar with levels, the written trees of each resolved symbol, by the written numbers, stand one to one with the derivation
+-- Of a grammar whose levels can become rules once it is prepared: with a lowered grammar that realizes the symbols of its grammar
+-- with levels, the written trees of each resolved symbol, by the written indices, correspond one to one with the derivation
 -- trees.
 abbrev pub WrittenTreesAreLowered : Type 0
 WrittenTreesAreLowered = (value : ConditionValue) (fs : Features) (g : GrammarData) → HasLevelNames (prepared_grammar fs g) →
@@ -244,13 +244,13 @@ WrittenTreesAreLowered = (value : ConditionValue) (fs : Features) (g : GrammarDa
 
 -- ---- the two readings of the expansion
 
--- A symbol with the arguments of a macro substituted reads as the symbol with the arguments bound.
+-- A symbol with the arguments of a macro substituted reads as the symbol in the environment of these arguments.
 abbrev pub ArgumentsAreSubstituted : Type 0
 ArgumentsAreSubstituted = (g : GrammarData) (r : WrittenRule) (args : Parts) (p : Part) (before after : ℕ) →
     closed (substituted (argument_kind r.args args) p)
     ≡ read_part (macro_reader (flat_rules g) r (read_all flat_reader args)) before after p
 
--- One rule is made of each symbol that a rule is made of, and it is the rule of that symbol.
+-- Each symbol of a kind that is desugared is desugared to one rule, and that is the rule of the symbol.
 abbrev pub MadeRulesAreRead : Type 0
 MadeRulesAreRead = (value : ConditionValue) (g : GrammarData) → resolved_grammar g ≡ g → IsScoped (flat_rules g) →
     (p : Part) → is_scoped (flat_rules g) [] p ≡ true → BecomesRule (closed p) →
@@ -263,7 +263,7 @@ RulesAreRead = (value : ConditionValue) (g : GrammarData) → IsSettled g →
     × ((r : RuleData) → In r (rules_without_arguments g) →
     map closed_parts r.alternatives ≡ map (λ (c : Clause). c.parts) (clauses (flat_meaning value g) (reference r.name.0 None)))
 
--- What is met in a symbol, in the rules of a grammar and in the rule of a symbol is what the closed symbols meet.
+-- What is reached in a symbol, in the rules of a grammar and in the rule of a symbol is what the ground symbols reach.
 abbrev pub MetIsRead : Type 0
 MetIsRead = (value : ConditionValue) (g : GrammarData) → IsSettled g →
     ((p : Part) → map closed (met p) ≡ meets (closed p))
@@ -272,14 +272,14 @@ MetIsRead = (value : ConditionValue) (g : GrammarData) → IsSettled g →
     × ((p : Part) → is_scoped (flat_rules g) [] p ≡ true → BecomesRule (closed p) →
     map closed (met_by_made value (macros_of g) p) ≡ rule_meets (flat_meaning value g) (closed p))
 
--- Each symbol that is made into a rule is a call, group, repeat or lookaround, and its names have a meaning without arguments.
+-- Each symbol that is desugared is a call, group, repeat or location symbol, and its names have a meaning without arguments.
 abbrev pub MadeSymbolsAreScoped : Type 0
 MadeSymbolsAreScoped =
     (value : ConditionValue) (g : GrammarData) → IsSettled g → (n : ℕ) (p : Part) → In p (made_symbols value g n) →
     (is_scoped (flat_rules g) [] p ≡ true) × BecomesRule (closed p)
 
--- Read, the symbols made in the first rounds are the expanded ones, each round is the round of the closed symbols, and a round
--- has nothing new in the one exactly where it has nothing new in the other.
+-- Read, the symbols desugared in the first rounds are the expanded ones, and each round is the round of the ground symbols. A
+-- round has nothing new in the one if and only if it has nothing new in the other.
 abbrev pub RoundsAreRead : Type 0
 RoundsAreRead = (value : ConditionValue) (g : GrammarData) → IsSettled g → (n : ℕ) →
     (map closed (made_symbols value g n) ≡ expanded_symbols (flat_meaning value g) (declared g) n)
@@ -287,12 +287,12 @@ RoundsAreRead = (value : ConditionValue) (g : GrammarData) → IsSettled g → (
     × (map closed (expansion_round value g n).fresh ≡ (expansion (flat_meaning value g) (declared g) n).fresh)
     × (IsEnded value g n ↔ ((expansion (flat_meaning value g) (declared g) n).fresh ≡ []))
 
--- In every grammar the text of a closed symbol without bounds is the text that its written symbol is displayed with.
+-- In every grammar the text of a ground symbol without bounds is the text that its written symbol is displayed with.
 abbrev pub TextsInGrammars : Type 0
 TextsInGrammars = (rs : List WrittenRule) (k : Kind) → text_in rs (read_kind flat_reader 0 0 k) ≡ kind_text k
 
--- The plain rules, with the origins of the clauses of their symbols, are the rules of these symbols, each under its text. There
--- is one origin for each alternative.
+-- The rules of the expanded grammar, with the origins of the clauses of their symbols, are the rules of these symbols, each under
+-- its text. There is one origin for each alternative.
 abbrev pub PlainRulesAreRead : Type 0
 PlainRulesAreRead = (value : ConditionValue) (g : GrammarData) → IsSettled g → (n : ℕ) →
     (length (plain_origins (flat_meaning value g) (declared g) n)
@@ -301,20 +301,20 @@ PlainRulesAreRead = (value : ConditionValue) (g : GrammarData) → IsSettled g �
     ≡ map (rule_of_symbol (flat_meaning value g) (text_in (flat_rules g)))
     (plain_symbols (flat_meaning value g) (declared g) n))
 
--- The rules of the grammar of plain rules are the plain rules.
+-- The expanded grammar has the plain rules (`plain_rules`) for its rules.
 abbrev pub PlainGrammarsHoldPlainRules : Type 0
 PlainGrammarsHoldPlainRules =
     (value : ConditionValue) (g : GrammarData) (n : ℕ) → all_rules (plain_grammar value g n) ≡ plain_rules value g n
 
--- Where the names of the plain rules are distinct, each name means one rule.
+-- If the names of the rules of the expanded grammar are distinct, each name means one rule.
 abbrev pub DistinctNamesMeanOneRule : Type 0
 DistinctNamesMeanOneRule =
     (value : ConditionValue) (g : GrammarData) → IsSettled g → (n : ℕ) →
     IsDistinct (rule_names (plain_grammar value g n)) →
     OneRuleAName (flat_meaning value g) (text_in (flat_rules g)) (plain_symbols (flat_meaning value g) (declared g) n)
 
--- Where round n + 1 has nothing new and each name means one rule, the written trees of each declared reference, and of each known
--- symbol, stand one to one with its derivation trees by the plain rules.
+-- If round n + 1 has nothing new and each name means one rule, the written trees of each declared reference, and of each known
+-- symbol, correspond one to one with its derivation trees by the rules of the expanded grammar.
 abbrev pub PlainRulesAreFaithful : Type 0
 PlainRulesAreFaithful = (value : ConditionValue) (g : GrammarData) → IsSettled g → (n : ℕ) → IsEnded value g n →
     OneRuleAName (flat_meaning value g) (text_in (flat_rules g)) (plain_symbols (flat_meaning value g) (declared g) n) →
@@ -323,7 +323,7 @@ PlainRulesAreFaithful = (value : ConditionValue) (g : GrammarData) → IsSettled
     × ((s : ClosedSymbol) → IsKnown (declared g) (expanded_symbols (flat_meaning value g) (declared g) n) s →
     OneToOne (flat_meaning value g) (text_in (flat_rules g)) (plain_table value g n) s)
 
--- A grammar of distinct names is typable exactly where no fault of inference is.
+-- A grammar of distinct names is typable if and only if no fault of inference holds.
 abbrev pub TypableExactly : Type 0
 TypableExactly = (g : GrammarData) → IsDistinct (rule_names g) → IsTypable g ↔ (inference_faults g ≡ [])
 
@@ -331,8 +331,8 @@ TypableExactly = (g : GrammarData) → IsDistinct (rule_names g) → IsTypable g
 abbrev pub TypeRoundsEnd : Type 0
 TypeRoundsEnd = (g : GrammarData) → IsEnd g (inferred g)
 
--- The rules without a type where the rounds end are the rules for which no type follows; there is none exactly where each rule
--- has a type. And where no two rules share a name, a rule for which one follows does not lack what gives one.
+-- The rules without a type where the rounds end are the rules for which no type is derivable; there is none if and only if each
+-- rule has a type. If no two rules share a name, a rule with a derivable type does not lack what gives one.
 abbrev pub UntypedRulesHaveNoType : Type 0
 UntypedRulesHaveNoType = (g : GrammarData) →
     ((r : RuleData) → In r (untyped_rules g) ↔ (IsRule g r × ((x : ReprData) → Has g r.name.0 x → ⊥)))
@@ -355,7 +355,7 @@ pub record IsOfTwoTypes (g : GrammarData) (a : AlternativeData) : Type 0 where
   pub has_made : Has g rule.name.0 made
   pub has_given : Has g rule.name.0 given
 
--- Each alternative that disagrees gives its rule a second type. Where no two rules share a name, none disagrees exactly where no
+-- Each alternative that disagrees gives its rule a second type. If no two rules share a name, none disagrees if and only if no
 -- name has two types; and then the table where the rounds end lists the types that names have, each of them and no other.
 abbrev pub DisagreementsAreTwoTypes : Type 0
 DisagreementsAreTwoTypes = (g : GrammarData) →
@@ -378,7 +378,7 @@ EntriesAreOneList = (g : GrammarData) (es : List MatchEntry) → AreEntries g es
 abbrev pub EnteredAreExpanded : Type 0
 EnteredAreExpanded = (g h : GrammarData) → IsExpanded g → interns g ≡ [] → IsEntered g h → IsExpanded h
 
--- Where the pass on tokens finds nothing wrong, and all conversions are active, an expanded grammar is typed, once it has its
+-- If the pass on tokens finds nothing wrong, and all conversions are active, an expanded grammar is typed, once it has its
 -- entries, by each table in which each of its rules has a type: its terminals are distinct, and each one used is one of them.
 abbrev pub EnteredAreTyped : Type 0
 EnteredAreTyped = (fs : Features) (g h : GrammarData) → IsExpanded g → interns g ≡ [] →

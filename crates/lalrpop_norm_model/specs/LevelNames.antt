@@ -1,5 +1,5 @@
--- When the levels of a grammar can become rules of their own: what must be so of its names. And where what stands in the grammar
--- with levels comes from.
+-- When the levels of a grammar can become rules of their own: what must hold of its names. And the origins of what is in the
+-- grammar with levels.
 use Rattle.std.specs.Prelude.{◌≡◌, ℕ, zero, suc, Bool, false, List, [], ◌∷◌, Option, Some, None, slice_get, bytes_eq}
 use Rattle.std.specs.Prelude.{if◌then◌else◌}
 use Rattle.lalrpop_norm_tree.specs.Items.{RuleData, GrammarData}
@@ -25,7 +25,7 @@ pub record HasLevelNames (g : GrammarData) : Type 0 where
   -- each name is resolved, and has a meaning
   pub resolved : resolved_grammar g ≡ g
   pub names : NamesAreScoped (leveled_rules g)
-  -- no two rules share a name, the rules of levels too
+  -- no two rules share a name, the rules of levels included
   pub no_clash : IsDistinct (rule_names (leveled_grammar g))
   -- a macro has no two levels
   pub macros : (d : RuleData) → In d (all_rules g) → is_nil d.args ≡ false → (l m : ℕ) →
@@ -53,7 +53,7 @@ abbrev pub level_origin : ConditionValue → GrammarData → Name → ℕ → Or
 level_origin value g =
     origin_among written (meaning value (leveled_rules g)) (level_names (leveled_rules g)) (references (leveled_rules g))
 
--- the place of what is number j of that which is there
+-- the index of what is number j of that which is there
 abbrev pub place_in : {A : Type 0} → List (Option A) → ℕ → ℕ
 place_in [] j = j
 place_in (None ∷ ps) j = suc (place_in ps j)
@@ -64,7 +64,7 @@ abbrev pub place_of : Option WrittenRule → ℕ → ℕ
 place_of None j = j
 place_of (Some r) j = place_in r.places j
 
--- in written rules: any other rule keeps its name, and number j of it stands at its place
+-- in written rules: any other rule keeps its name, and number j of it is at its index
 abbrev pub written_origin : ConditionValue → List WrittenRule → Name → ℕ → Origin
 written_origin value rs =
     origin_among (λ m j. written m (place_of (rule_named rs m) j)) (meaning value rs) (level_names rs) (references rs)

@@ -1,4 +1,4 @@
--- The grammar with levels: each level of a rule as a rule of its own, in its place.
+-- The grammar with levels: each level of a rule as a rule of its own, in place of the rule.
 use Rattle.std.specs.Prelude.{ℕ, ◌+◌, Bool, List, [], ◌∷◌, ◌++◌, map, flat_map, Option, Some, None, codes, nat_eq}
 use Rattle.std.specs.Prelude.{if◌then◌else◌}
 use Rattle.lalrpop_norm_tree_names.specs.declared.names.Span.{Span}
@@ -19,7 +19,7 @@ abbrev pub without_first : List ℕ → Attributes → Attributes
 without_first name no_attributes = no_attributes
 without_first name (attribute_and a rest) = if is_named name a then rest else attribute_and a (without_first name rest)
 
--- A symbol with the name that `level` tells in the place of each own occurrence, by how many stand before and after it.
+-- A symbol with the name that `level` gives in place of each recursive occurrence, by how many there are before and after it.
 abbrev mutual
   pub leveled_kind : (List ℕ → Bool) → (ℕ → ℕ → List ℕ) → ℕ → ℕ → Kind → Kind
   leveled_kind own level before after (nonterminal n) = nonterminal (if own n then level before after else n)
@@ -48,11 +48,11 @@ abbrev mutual
 abbrev pub level_of_rule : RuleData → List (Option Leveled) → ℕ → List ℕ
 level_of_rule r ps l = level_name r.name.0 (highest_level ps) l
 
--- a reference of a rule, which is no macro, to itself
+-- a recursive occurrence: a reference of a rule, which is no macro, to itself
 abbrev pub is_own : RuleData → List ℕ → Bool
 is_own r n = is_nil r.args && bytes_eq n r.name.0
 
--- an alternative of a level: each own occurrence as the level of its bound, without the `precedence` and the `assoc` read
+-- an alternative of a level: each recursive occurrence as the level of its bound, without the `precedence` and the `assoc` read
 abbrev pub level_alternative : RuleData → List (Option Leveled) → Leveled → AlternativeData
 level_alternative r ps a = record a.alternative {
   parts = leveled_parts (is_own r)
@@ -61,7 +61,7 @@ level_alternative r ps a = record a.alternative {
   attributes = without_first (codes "assoc") (without_first (codes "precedence") a.alternative.attributes);
 }
 
--- the step to another rule: its name alone, at the rule's span, without code
+-- the step to another rule: only its name, at the rule's span, without action code
 abbrev pub step_alternative : Span → List ℕ → AlternativeData
 step_alternative s n =
     record {

@@ -1,4 +1,4 @@
--- Precedence levels: the level and the side of each enabled alternative, and the levels of a rule.
+-- Precedence levels: the level and the associativity (`side`) of each enabled alternative, and the levels of a rule.
 use Rattle.std.specs.Prelude.{ℕ, suc, ◌^◌, Bool, true, false, ◌&&◌, ◌||◌, List, [], ◌∷◌, length, map, take}
 use Rattle.std.specs.Prelude.{Option, Some, None, option_map, option_and_then, unwrap_or, is_some, nat_lt, codes, bytes_eq}
 use Rattle.std.specs.Prelude.{if◌then◌else◌}
@@ -46,7 +46,7 @@ stated_level attributes =
     option_and_then (number_of (2 ^ 32)) (option_and_then (value_under (codes "level"))
     (first_named (codes "precedence") attributes))
 
--- on which side of an operator its own level may stand: on the left, on the right, on neither, on every side
+-- the associativity: on which side of an operator its own level may be: left, right, none, all
 pub data Side : Type 0 where
   left : Side
   right : Side
@@ -60,7 +60,7 @@ side_named text =
     (if bytes_eq text (codes "none") then Some neither else
     (if bytes_eq text (codes "all") then Some every else None)))
 
--- the side that an attribute list states: that of its first `assoc`
+-- the associativity that an attribute list states: that of its first `assoc`
 abbrev pub stated_side : Attributes → Option Side
 stated_side attributes =
     option_and_then side_named (option_and_then (value_under (codes "side")) (first_named (codes "assoc") attributes))
@@ -73,7 +73,7 @@ abbrev pub side_stated : Option AlternativeData → Option Side
 side_stated None = None
 side_stated (Some a) = stated_side a.attributes
 
--- ---- levels and sides of places
+-- ---- levels and associativities of indices
 
 abbrev pub last_stated : {A : Type 0} → List (Option A) → Option A
 last_stated [] = None
@@ -82,37 +82,37 @@ last_stated (x ∷ xs) = or_else (last_stated xs) x
 abbrev pub some_states_level : PlacedAlternatives → Bool
 some_states_level ps = is_some (last_stated (map level_stated ps))
 
--- the places from the last one on that states a level; all, where none does
+-- the indices from the last one on that states a level; all, if none does
 abbrev pub since_level : PlacedAlternatives → PlacedAlternatives
 since_level [] = []
 since_level (p ∷ ps) = if some_states_level ps then since_level ps else p ∷ ps
 
--- the places up to number k, itself too
+-- the indices up to k, itself included
 abbrev pub up_to : ℕ → PlacedAlternatives → PlacedAlternatives
 up_to k ps = take (suc k) ps
 
--- The level of an alternative: the one stated last at or before it. Without any, which is refused where there are levels, 0.
+-- The level of an alternative: the one stated last at or before it. If there is none, which is an error in a rule with levels, 0.
 abbrev pub level_at : PlacedAlternatives → ℕ → ℕ
 level_at ps k = unwrap_or (last_stated (map level_stated (up_to k ps))) 0
 
--- The side of an alternative: the one stated last at or before it and not before its level; without one, every.
+-- The associativity of an alternative: the one stated last at or before it and not before its level; `all` if there is none.
 abbrev pub side_at : PlacedAlternatives → ℕ → Side
 side_at ps k = unwrap_or (last_stated (map side_stated (since_level (up_to k ps)))) every
 
 -- ---- the levels of a rule
 
--- an alternative with an attribute on levels; `assoc` alone is one
+-- an alternative with an attribute on levels, of which `assoc` is one
 abbrev pub has_level_attribute : AlternativeData → Bool
 has_level_attribute a =
     is_some (first_named (codes "precedence") a.attributes) || is_some (first_named (codes "assoc") a.attributes)
 
--- a rule has levels where one of its enabled alternatives has `precedence` or `assoc`
+-- a rule has levels if one of its enabled alternatives has `precedence` or `assoc`
 abbrev pub has_levels : PlacedAlternatives → Bool
 has_levels [] = false
 has_levels (None ∷ ps) = has_levels ps
 has_levels (Some a ∷ ps) = has_level_attribute a || has_levels ps
 
--- an enabled alternative with its level and side
+-- an enabled alternative with its level and associativity
 pub record Leveled : Type 0 where
   pub level : ℕ
   pub side : Side
@@ -122,16 +122,16 @@ abbrev pub leveled_at : PlacedAlternatives → ℕ → Option AlternativeData �
 leveled_at ps k None = None
 leveled_at ps k (Some a) = Some (record { level = level_at ps k; side = side_at ps k; alternative = a })
 
--- f of each number and what stands there, the first number being k
+-- f of each number and what is there, the first number being k
 abbrev pub map_numbered : {A B : Type 0} → (ℕ → A → B) → ℕ → List A → List B
 map_numbered f k [] = []
 map_numbered f k (x ∷ xs) = f k x ∷ map_numbered f (suc k) xs
 
--- the enabled alternatives at their places, each with its level and side
+-- the enabled alternatives at their indices, each with its level and associativity
 abbrev pub with_levels : PlacedAlternatives → List (Option Leveled)
 with_levels ps = map_numbered (leveled_at ps) 0 ps
 
--- the same with one level for all of them
+-- the enabled alternatives at their indices, with one level for all of them
 abbrev pub without_levels : PlacedAlternatives → List (Option Leveled)
 without_levels ps = map (option_map (λ a. record { level = 0; side = every; alternative = a })) ps
 

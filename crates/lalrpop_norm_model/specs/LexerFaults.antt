@@ -1,4 +1,4 @@
--- Where a lexer may refuse, and what the pass on tokens looks for, the lexer's refusals among the rest.
+-- The errors that a lexer may report, and all errors of the pass on tokens, those of the lexer included.
 use Rattle.std.specs.Prelude.{◌≡◌, ℕ, ◌||◌, List, ◌∷◌, ◌++◌, map}
 use Rattle.std.specs.Prelude.{Option, Some, None, is_none, slice_get, take}
 use Rattle.std.specs.Prelude.{if◌then◌else◌}
@@ -22,7 +22,7 @@ use Rattle.lalrpop_norm_model.specs.CheckedTokens.{AreRegexes, precedences}
 use Rattle.lalrpop_norm_model.specs.TokenFaults.{literals_of, match_items, places_used, checked_enum_faults, entry_faults}
 use Rattle.lalrpop_norm_model.specs.TokenFaults.{input_faults}
 
--- ---- where a literal stands
+-- ---- the span of a literal
 
 abbrev pub place_if : TerminalLiteral → TerminalString × Span → Option Span
 place_if l p = if same_terminal p.0 (Literal l) then Some p.1 else None
@@ -36,13 +36,13 @@ added_at g l =
 abbrev pub item_place_if : TerminalLiteral → MatchItem → Option Span
 item_place_if l i = if list_any (same_literal l) (literals_of i) then Some (match_item_span i) else None
 
--- where the literal of an entry stands: at the symbol that added it, else at its match item
+-- the span of the literal of an entry: at the symbol that added it, else at its match item
 abbrev pub literal_at : GrammarData → TerminalLiteral → Option Span
 literal_at g l = or_else (added_at g l) (first_of (item_place_if l) (match_items g))
 
--- ---- where a lexer may refuse
+-- ---- the errors that a lexer may report
 
--- the literal of the entry at that index stands there
+-- that is the span of the literal of the entry at that index
 pub record StandsAt (g : GrammarData) (entries : List MatchEntry) (index : ℕ) (s : Span) : Type 0 where
   pub entry : MatchEntry
   pub at_index : slice_get entries index ≡ Some entry
@@ -77,7 +77,7 @@ pub record HasFeatureThere {R : Type 0} (l : Lexer R) (g : GrammarData) (s : Spa
   pub unsupported : HasFeatureAt l regexes index feature
   pub place : StandsAt g entries index s
 
--- two entries are ambiguous; the place is that of the one named first
+-- two entries are ambiguous; the span is that of the one named first
 pub record IsAmbiguousAt {R : Type 0} (l : Lexer R) (g : GrammarData) (s : Span) : Type 0 where
   pub entries : List MatchEntry
   pub regexes : List R
@@ -88,7 +88,7 @@ pub record IsAmbiguousAt {R : Type 0} (l : Lexer R) (g : GrammarData) (s : Span)
   pub ambiguity : IsAmbiguity l regexes (precedences entries) first second
   pub place : StandsAt g entries first s
 
--- a refusal of the lexer that is true
+-- an error of the lexer that holds
 pub data LexerRefuses {R : Type 0} (l : Lexer R) (g : GrammarData) : Fault → Type 0 where
   by_text : (s : Span) → IsBadAt l g s → LexerRefuses l g (BadRegex, s)
   by_feature : (s : Span) → HasFeatureThere l g s → LexerRefuses l g (RegexFeature, s)
@@ -96,7 +96,7 @@ pub data LexerRefuses {R : Type 0} (l : Lexer R) (g : GrammarData) : Fault → T
 
 -- ---- what the pass looks for
 
--- the one place where a fault may be told that stands, and may go untold
+-- the one point of the search at which a fault that holds may be reported, and may go unreported
 pub data LexerPlace : Type 0 where
   at_lexer : LexerPlace
 
@@ -107,6 +107,6 @@ abbrev pub token_findings_with : Option EnumTokenData → GrammarData → List (
 token_findings_with (Some e) g = map sure (checked_enum_faults e g)
 token_findings_with None g = map sure (entry_faults g) ++ maybe at_lexer ∷ map sure (input_faults g)
 
--- beside internal tokens the lexer is asked once the entries stand, and before what is declared is looked at
+-- with internal tokens the lexer is asked once the entries are known, and before what is declared is checked
 abbrev pub token_findings : GrammarData → List (Finding LexerPlace)
 token_findings g = token_findings_with (extern_enum g) g

@@ -23,23 +23,23 @@ pub record Lexer (R : Type 0) : Type 1 where
   -- the automaton is built from the regexes and their precedences, both in one order
   pub IsBuilt : List R → List ℕ → List ℕ → Type 0
 
--- what reading a text may answer, want of memory aside
+-- what reading a text may answer, unless an allocation fails
 pub data Read (R : Type 0) : Type 0 where
   regex : R → Read R
   bad : Read R
 
--- what building may answer, want of memory aside: the automaton; the index of a regex, and its feature; two indexes
+-- what building may answer, unless an allocation fails: the automaton; the index of a regex, and its feature; two indexes
 pub data Built : Type 0 where
   automaton : List ℕ → Built
   unsupported : ℕ → Feature → Built
   ambiguous : ℕ → ℕ → Built
 
--- A literal's text is read as a regex of it, and never refused.
+-- A literal's text is read as a regex of it, and never rejected.
 abbrev pub KeepsLiteral : {R : Type 0} → Lexer R → List ℕ → Read R → Type 0
 KeepsLiteral l text (regex r) = l.IsRegexOf (Quoted text) r
 KeepsLiteral l text bad = ⊥
 
--- A pattern's text is read as a regex of it, or refused where it is bad.
+-- A pattern's text is read as a regex of it, or rejected if it is bad.
 abbrev pub KeepsPattern : {R : Type 0} → Lexer R → List ℕ → Read R → Type 0
 KeepsPattern l text (regex r) = l.IsRegexOf (Regex text) r
 KeepsPattern l text bad = l.IsBad text
@@ -55,7 +55,7 @@ pub record IsAmbiguity {R : Type 0} (l : Lexer R) (rs : List R) (precedences : L
   pub differ : i ≢ j
   pub ambiguous : l.AreAmbiguous rs precedences i j
 
--- Building answers an automaton that is built, or refuses where its reason holds.
+-- Building answers an automaton that is built, or an error whose reason holds.
 abbrev pub KeepsBuilding : {R : Type 0} → Lexer R → List R → List ℕ → Built → Type 0
 KeepsBuilding l rs precedences (automaton code) = l.IsBuilt rs precedences code
 KeepsBuilding l rs precedences (unsupported i f) = HasFeatureAt l rs i f

@@ -1,4 +1,4 @@
--- Where lowering refuses: its faults in the order of looking.
+-- All errors of lowering, in visiting order.
 use Rattle.std.specs.Prelude.{ℕ, suc, Bool, not, ◌&&◌, List, [], ◌∷◌, ◌++◌, length, filter, flat_map, Option}
 use Rattle.std.specs.Prelude.{Some, None, is_none, nat_eq, nat_le, codes, if◌then◌else◌}
 use Rattle.std.specs.List.{starts_with, enumerate_from}
@@ -15,7 +15,7 @@ use Rattle.lalrpop_norm_model.specs.TypeTables.{Table}
 
 -- ---- `<>` and sources
 
--- how often `<>` stands in a text
+-- how often `<>` is in a text
 abbrev pub slots : List ℕ → ℕ
 slots [] = 0
 slots (c ∷ cs) = if starts_with nat_eq (c ∷ cs) (codes "<>") then suc (slots cs) else slots cs
@@ -37,7 +37,7 @@ abbrev pub last_of : Source → List Source → Source
 last_of x [] = x
 last_of x (y ∷ ys) = last_of y ys
 
--- from the start of the first source to the end of the last one; where there is none, all
+-- from the start of the first source to the end of the last one; if there is none, all
 abbrev pub span_over : Span → List Source → Span
 span_over all [] = all
 span_over all (x ∷ xs) = record { 0 = (span_of x.symbol).0; 1 = (span_of (last_of x xs).symbol).1 }

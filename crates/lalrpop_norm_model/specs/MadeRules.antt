@@ -1,6 +1,6 @@
--- What each macro call, group, repeat and lookaround is made into: a rule, as a function of the symbol where it was first met.
--- The symbols of its alternatives are written ones, with the arguments substituted; nothing in them is a name yet of what it is made
--- into. A symbol whose type is put into a declared type stands there replaced.
+-- What each macro call, group, repeat and location symbol is desugared to: a rule, as a function of the symbol where it was first
+-- reached. The symbols of its alternatives are written ones, with the arguments substituted; nothing in them is a name yet of
+-- what it is desugared to. A symbol whose type is substituted into a declared type is rewritten there.
 use Rattle.std.specs.Prelude.{ℕ, replicate, Bool, true, false, ◌||◌, List, [], ◌∷◌, map, Option, Some, None, option_map, codes}
 use Rattle.std.specs.Prelude.{bytes_eq, if◌then◌else◌}
 use Rattle.lalrpop_norm_tree_names.specs.declared.names.Span.{Span}
@@ -38,7 +38,7 @@ abbrev pub some_name_value : Parts → Bool
 some_name_value no_parts = false
 some_name_value (part_and p ps) = names_value p || some_name_value ps
 
--- what is in the chosen symbols
+-- what is in the selected symbols
 abbrev pub chosen_kinds : Parts → List Kind
 chosen_kinds no_parts = []
 chosen_kinds (part_and (at s (chosen p)) ps) = kind_of p ∷ chosen_kinds ps
@@ -52,7 +52,7 @@ abbrev pub if_any : {A : Type 0} → List A → List A → List A
 if_any [] otherwise = otherwise
 if_any (x ∷ xs) otherwise = x ∷ xs
 
--- the symbols whose values a group gives: the chosen ones, if there are any, else all
+-- the symbols whose values a group gives: the selected ones, if there are any, else all
 abbrev pub group_sources : Parts → List Kind
 group_sources ps = if_any (chosen_kinds ps) (all_kinds ps)
 
@@ -61,7 +61,7 @@ group_sources ps = if_any (chosen_kinds ps) (all_kinds ps)
 abbrev pub inline_at : Span → Attributes
 inline_at s = attribute_and (attribute s (codes "inline") empty) no_attributes
 
--- an alternative at s with that code
+-- an alternative at s with that action code
 abbrev pub coded : Span → Parts → List ℕ → AlternativeData
 coded s ps code = record { span = s; parts = ps; condition = None; action = Some (user_code code); attributes = no_attributes }
 
@@ -93,7 +93,7 @@ abbrev pub bare_or_tuple_code : List Kind → List ℕ
 bare_or_tuple_code (k ∷ []) = codes "<>"
 bare_or_tuple_code ks = codes "(<>)"
 
--- `(a b)`: one alternative, the type and the code of its sources
+-- `(a b)`: one alternative, the type and the action code of its sources
 abbrev pub group_rule : Span → Parts → RuleData
 group_rule s ps =
     private_rule s (group ps) (inline_at s) (Some (bare_or_tuple (map type_of_kind (group_sources ps))))
@@ -104,7 +104,7 @@ group_rule s ps =
 abbrev pub only_part : Part → Parts
 only_part p = part_and p no_parts
 
--- one symbol so many times
+-- one symbol, repeated a number of times
 abbrev pub so_many : ℕ → Part → Parts
 so_many n p = parts_of (replicate n p)
 
@@ -155,7 +155,7 @@ repeat_rule s Plus p = plus_rule s p
 repeat_rule s Question p = question_rule s p
 repeat_rule s (Times n) p = times_rule s n p
 
--- ---- lookarounds
+-- ---- location symbols
 
 -- `@L` and `@R`: one empty alternative that gives a location, and no declared type
 abbrev pub location_rule : Span → Kind → Action → RuleData
@@ -165,7 +165,7 @@ location_rule s k action =
 
 -- ---- macros
 
--- what the arguments of a macro are bound to
+-- the environment of a macro: what its arguments are bound to
 abbrev pub argument_kind : List NonterminalString → Parts → List ℕ → Option Kind
 argument_kind (a ∷ rest) (part_and p ps) n = if bytes_eq a.0 n then Some (kind_of p) else argument_kind rest ps n
 argument_kind _ _ n = None
@@ -174,7 +174,7 @@ abbrev pub or_name : List ℕ → Option Kind → Kind
 or_name n None = nonterminal n
 or_name n (Some k) = k
 
--- a symbol with the arguments substituted; one that is substituted stands where its name stood
+-- a symbol with the arguments substituted; one that is substituted is in place of its name
 abbrev mutual
   pub substituted : (List ℕ → Option Kind) → Part → Part
   substituted argument (at s k) = at s (kind_substituted argument k)
@@ -222,7 +222,7 @@ abbrev mutual
   returned_substituted argument no_type = no_type
   returned_substituted argument (returns t) = returns (type_substituted argument t)
 
--- A symbol in which no name is an argument and no reference has a bound, as a closed symbol.
+-- A symbol in which no name is an argument and no reference has a bound, as a ground symbol.
 abbrev pub flat_reader : Reader
 flat_reader = record { argument = λ n. None; is_own = λ n. false; own_bound = λ before after. None; bound = λ n. None }
 
@@ -239,7 +239,8 @@ instance_alternatives value s d args (a ∷ rest) =
     then instance_alternative s (argument_kind d.args args) a ∷ instance_alternatives value s d args rest
     else instance_alternatives value s d args rest
 
--- A call of a macro: its definition's visibility and attributes, its declared type and alternatives with the arguments substituted.
+-- A call of a macro: its definition's visibility and attributes, its declared type and alternatives with the arguments
+-- substituted.
 abbrev pub instance_rule : ConditionValue → Span → RuleData → Parts → RuleData
 instance_rule value s d args = record {
   visibility = d.visibility;
@@ -262,7 +263,7 @@ instance_of value s (Some d) args = instance_rule value s d args ∷ []
 
 -- ---- all of them
 
--- the rule that a symbol is made into where it was first met; other kinds of symbols are made into none
+-- the rule that a symbol is desugared to where it was first reached; other kinds of symbols are not desugared
 abbrev pub made_rules : ConditionValue → List RuleData → Part → List RuleData
 made_rules value macros (at s (group ps)) = group_rule s ps ∷ []
 made_rules value macros (at s (call n ps)) = instance_of value s (macro_named macros n) ps

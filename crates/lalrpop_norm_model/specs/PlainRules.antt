@@ -1,5 +1,5 @@
--- The plain rules of a grammar: its rules, then those that are made, round by round, each symbol that is made into a rule
--- replaced by the nonterminal of its text.
+-- The rules of the expanded grammar (`plain_rules`): those of the grammar, then the generated ones, round by round. Each symbol
+-- that is desugared is rewritten to the nonterminal of its text.
 use Rattle.std.specs.Prelude.{ℕ, Bool, List, [], ◌∷◌, ◌++◌, ◌≡◌, map, flat_map, filter, not}
 use Rattle.std.specs.Prelude.{if◌then◌else◌}
 use Rattle.lalrpop_norm_tree.specs.Symbols.{Part, Parts, group, ambiguous_id, terminal, nonterminal, call, repeated, chosen}
@@ -13,19 +13,19 @@ use Rattle.lalrpop_norm_model.specs.Replaced.{all_replaced}
 use Rattle.lalrpop_norm_model.specs.Grammars.{ConditionValue, is_nil}
 use Rattle.lalrpop_norm_model.specs.MadeRules.{flat_reader, made_rules}
 
--- ---- rules replaced
+-- ---- rules rewritten
 
 abbrev pub replaced_alternative : AlternativeData → AlternativeData
 replaced_alternative a = record a { parts = all_replaced a.parts }
 
--- a rule with the symbols of its alternatives replaced
+-- a rule with the symbols of its alternatives rewritten
 abbrev pub replaced_rule : RuleData → RuleData
 replaced_rule r = record r { alternatives = map replaced_alternative r.alternatives }
 
--- ---- what is met
+-- ---- what is reached
 
--- A call, group or repeat meets what its parts meet, then itself; a wrapped symbol what its inner symbol meets; a lookaround
--- itself; all else nothing.
+-- A call, group or repeat reaches (`met`) what its parts reach, then itself; a wrapped symbol what its inner symbol reaches; a
+-- location symbol itself; all else nothing.
 abbrev mutual
   pub met : Part → List Part
   met (at s (group ps)) = all_met ps ++ at s (group ps) ∷ []
@@ -50,12 +50,12 @@ met_in_rule r = flat_map (λ (a : AlternativeData). all_met a.parts) r.alternati
 
 -- ---- rounds
 
--- Two symbols are the same where they are equal apart from spans. An identifier counts as the name of a rule: in a grammar
+-- Two symbols are the same if they are equal up to spans. An identifier counts as the name of a rule: in a grammar
 -- whose names are resolved there is none.
 abbrev pub same_apart_from_spans : Part → Part → Bool
 same_apart_from_spans p q = same_symbol (read_part flat_reader 0 0 p) (read_part flat_reader 0 0 q)
 
--- what the rule of a symbol meets
+-- what the rule of a symbol reaches
 abbrev pub met_by_made : ConditionValue → List RuleData → Part → List Part
 met_by_made value macros p = flat_map met_in_rule (made_rules value macros p)
 
@@ -73,12 +73,13 @@ rules_without_arguments g = filter (λ r. is_nil r.args) (all_rules g)
 abbrev pub macros_of : GrammarData → List RuleData
 macros_of g = filter (λ r. not (is_nil r.args)) (all_rules g)
 
--- what is new in round k + 1, and what was before: round 1 reads the rules of the grammar, each later one those made before it
+-- what is new in round k + 1, and what was before: round 1 reads the rules of the grammar, each later one those generated in the
+-- round before
 abbrev pub expansion_round : ConditionValue → GrammarData → ℕ → Round Part
 expansion_round value g k =
     rounds same_apart_from_spans (met_by_made value (macros_of g)) (flat_map met_in_rule (rules_without_arguments g)) k
 
--- the symbols that are made into rules in the first `count` rounds, in the order in which their rules stand
+-- the symbols that are desugared in the first `count` rounds, in the order of their rules
 abbrev pub made_symbols : ConditionValue → GrammarData → ℕ → List Part
 made_symbols value g count =
     all_rules_made same_apart_from_spans (met_by_made value (macros_of g))
@@ -91,9 +92,9 @@ made_in value g count = flat_map (made_rules value (macros_of g)) (made_symbols 
 abbrev pub IsEnded : ConditionValue → GrammarData → ℕ → Type 0
 IsEnded value g count = (expansion_round value g count).fresh ≡ []
 
--- ---- the grammar of plain rules
+-- ---- the expanded grammar
 
--- a rule without arguments, its symbols replaced; macros are dropped; all else as it is
+-- a rule without arguments, its symbols rewritten; macros are dropped; all else as it is
 abbrev pub plain_item : ItemData → List ItemData
 plain_item (rule_item r) = if is_nil r.args then rule_item (replaced_rule r) ∷ [] else []
 plain_item (match_item m) = match_item m ∷ []
@@ -101,7 +102,7 @@ plain_item (extern_item t) = extern_item t ∷ []
 plain_item (intern_item t) = intern_item t ∷ []
 plain_item (use_item u) = use_item u ∷ []
 
--- the grammar of plain rules, where the first `count` rounds make all: what is left of its items, then the rules made
+-- the expanded grammar, if the first `count` rounds generate all rules: what is left of its items, then the generated rules
 abbrev pub plain_grammar : ConditionValue → GrammarData → ℕ → GrammarData
 plain_grammar value g count =
     record g { items = flat_map plain_item g.items ++ map (λ r. rule_item (replaced_rule r)) (made_in value g count) }

@@ -1,4 +1,4 @@
--- The plain rules as a lowered grammar: their names, and their alternatives as productions.
+-- The rules of the expanded grammar (plain rules) as a lowered grammar: their names, and their alternatives as productions.
 use Rattle.std.specs.Prelude.{◌≡◌, ℕ, Bool, true, false, List, [], ◌∷◌, length, map, drop}
 use Rattle.lalrpop_norm_tree.specs.declared.symbol.RepeatOp.TheVariants.{Star, Plus}
 use Rattle.lalrpop_norm_tree.specs.Symbols.{Kind, Part, Parts, group, ambiguous_id, terminal, nonterminal, call, repeated, chosen}
@@ -23,7 +23,7 @@ use Rattle.lalrpop_norm_model.specs.PlainRules.{plain_rules}
 use Rattle.lalrpop_norm_model.specs.Origins.{plain_origins}
 use Rattle.lalrpop_norm_model.specs.Expanded.{rule_names}
 
--- a grammar whose names are resolved, stand once and have a meaning
+-- a grammar whose names are resolved, are declared once and have a meaning
 pub record IsSettled (g : GrammarData) : Type 0 where
   pub resolved : resolved_grammar g ≡ g
   pub once : IsDistinct (rule_names g)
@@ -36,9 +36,9 @@ flat_meaning value g = meaning value (flat_rules g)
 abbrev pub declared : GrammarData → List ClosedSymbol
 declared g = references (flat_rules g)
 
--- ---- closed symbols of alternatives
+-- ---- ground symbols of alternatives
 
--- a written symbol as the closed one that it is where there are no arguments and no bounds
+-- a written symbol as the ground one that it is if there are no arguments and no bounds
 abbrev pub closed : Part → ClosedSymbol
 closed p = read_part flat_reader 0 0 p
 
@@ -61,7 +61,7 @@ names_symbols (at s (repeated Plus p)) = true
 names_symbols _ = false
 
 -- The rule r is that of the symbol p: it has its text as its name, and its alternatives hold the clauses of p in order, apart
--- from what is wrapped around their symbols. Where it names no symbols, they hold them as they are.
+-- from what is wrapped around their symbols. If it names no symbols, they hold them as they are.
 pub record IsRuleOf (M : Meaning) (p : Part) (r : RuleData) : Type 0 where
   pub name : r.name.0 ≡ part_text p
   pub clauses_held : map (λ (a : AlternativeData). all_unwrapped (closed_parts a)) r.alternatives
@@ -71,8 +71,8 @@ pub record IsRuleOf (M : Meaning) (p : Part) (r : RuleData) : Type 0 where
 
 -- ---- productions
 
--- The symbol that a plain symbol is in a production: a terminal, `!` as the error terminal, a wrapped symbol as what is in it,
--- any other as the nonterminal of its text.
+-- The symbol of a production that a symbol of the expanded grammar becomes: a terminal, `!` as the error terminal, a wrapped
+-- symbol as what is in it, any other as the nonterminal of its text.
 abbrev mutual
   pub plain_symbol_kind : Kind → LoweredSymbol
   plain_symbol_kind (terminal t) = terminal_symbol (terminal_of t)
@@ -109,7 +109,7 @@ rules_from origins (r ∷ rs) =
     record { name = r.name.0; productions = productions_with_origins origins r.alternatives }
     ∷ rules_from (drop (length r.alternatives) origins) rs
 
--- the plain rules after the first `count` rounds, by name, each alternative with the origin of its clause
+-- the rules of the expanded grammar after the first `count` rounds, by name, each alternative with the origin of its clause
 abbrev pub plain_table : ConditionValue → GrammarData → ℕ → ProductionTable
 plain_table value g count =
     table (rules_from (plain_origins (flat_meaning value g) (declared g) count) (plain_rules value g count))

@@ -1,4 +1,4 @@
--- Enabled alternatives by their ranks: what is left of the written numbers where the disabled alternatives are taken out.
+-- Enabled alternatives by their ranks: what is left of the written indices without the disabled alternatives.
 use Rattle.std.specs.Prelude.{◌≡◌, ℕ, ◌<◌, List, map, length, take, Option, Some, None}
 use Rattle.lalrpop_norm_tree.specs.Items.{GrammarData}
 use Rattle.lalrpop_norm_theory.specs.Symbols.{Name, ClosedSymbol, ClosedSymbols}
@@ -19,13 +19,13 @@ use Rattle.lalrpop_norm_model.specs.WrittenRules.{WrittenRule, rule_named}
 abbrev pub prepared_grammar : Features → GrammarData → GrammarData
 prepared_grammar fs g = resolved_grammar (enabled_grammar fs g)
 
--- the rule without its holes: the alternatives that are there, in order, from place 0 on
+-- the rule without its holes: the alternatives that are there, in order, from index 0 on
 abbrev pub closed_up : WrittenRule → WrittenRule
 closed_up r = record r { places = map Some (present r.places) }
 
 -- ---- ranks
 
--- the rank of place k: how many alternatives stand before it
+-- the rank of index k: how many alternatives are before it
 abbrev pub rank_in : {A : Type 0} → List (Option A) → ℕ → ℕ
 rank_in ps k = length (present (take k ps))
 
@@ -33,7 +33,7 @@ abbrev pub rank_of : Option WrittenRule → ℕ → ℕ
 rank_of None k = 0
 rank_of (Some r) k = rank_in r.places k
 
--- the rank of place k in the rule of a name
+-- the rank of index k in the rule of a name
 abbrev pub rank_by : List WrittenRule → Name → ℕ → ℕ
 rank_by rs n k = rank_of (rule_named rs n) k
 
@@ -91,7 +91,7 @@ abbrev mutual
 abbrev pub ranked : (Name → ℕ → ℕ) → Name × ℕ → Name × ℕ
 ranked rank a = (a.0, rank a.0 a.1)
 
--- the written trees of each closed symbol stand one to one by renumbering, with the same words and the same alternatives but
+-- the written trees of each ground symbol correspond one to one by renumbering, with the same words and the same alternatives but
 -- for their numbers
 pub record TreesAreRenumbered (M N : Meaning) (rank : Name → ℕ → ℕ) : Type 0 where
   pub down : (t : WrittenTree) (s : ClosedSymbol) → IsTreeOf M t s → IsTreeOf N (renumbered rank t) s
@@ -100,8 +100,8 @@ pub record TreesAreRenumbered (M N : Meaning) (rank : Name → ℕ → ℕ) : Ty
   pub same_yields : (t : WrittenTree) → yield (renumbered rank t) ≡ yield t
   pub same_alternatives : (t : WrittenTree) → alternatives (renumbered rank t) ≡ map (ranked rank) (alternatives t)
 
--- the written trees of s in M and the derivation trees of its symbol stand one to one, each where the renumbered tree of N
--- pairs, with the same words, and with the alternatives by their ranks
+-- the written trees of s in M and the derivation trees of its symbol correspond one to one: a tree of M corresponds to what its
+-- renumbered tree of N corresponds to; with the same words, and with the alternatives by their ranks
 pub record OneToOneByRank (M N : Meaning) (rank : Name → ℕ → ℕ) (name : ClosedSymbol →
     Name) (P : ProductionTable) (s : ClosedSymbol) : Type 0 where
   pub down : (t : WrittenTree) → IsTreeOf M t s →

@@ -12,7 +12,7 @@ same_lifetime None None = true
 same_lifetime (Some a) (Some b) = bytes_eq a.0 b.0
 same_lifetime _ _ = false
 
--- of one length, and the same at each place
+-- of one length, and the same at each index
 abbrev pub all_same : {A : Type 0} → (A → A → Bool) → List A → List A → Bool
 all_same same [] [] = true
 all_same same (x ∷ xs) (y ∷ ys) = same x y && all_same same xs ys

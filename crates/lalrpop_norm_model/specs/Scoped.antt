@@ -1,4 +1,4 @@
--- Rules in which each name has a meaning of the right kind: what is so where no fault of names stands.
+-- Rules in which each name has a meaning of the right kind: what holds if no name fault holds.
 use Rattle.std.specs.Prelude.{◌≡◌, ◌<◌, Bool, true, false, ◌&&◌, ◌||◌, not, List, [], ◌∷◌, length, Option}
 use Rattle.std.specs.Prelude.{Some, None}
 use Rattle.lalrpop_norm_tree_names.specs.declared.names.NonterminalString.{NonterminalString}

@@ -13,13 +13,13 @@ use Rattle.lalrpop_norm_tree.specs.Symbols.{named, tupled, lookahead, lookbehind
 use Rattle.lalrpop_norm_tree.specs.Items.{AlternativeData, RuleData, ConversionData, EnumTokenData, ItemData, GrammarData}
 use Rattle.lalrpop_norm_tree.specs.Items.{match_item, extern_item, intern_item, rule_item, use_item}
 
--- what a global name is: a rule without arguments, a macro with so many, or a terminal
+-- what a global name is: a rule without arguments, a macro with that many, or a terminal
 pub data Definition : Type 0 where
   a_rule : Definition
   a_macro : ℕ → Definition
   a_terminal : Definition
 
--- a definition of a name, where it stands
+-- a definition of a name, with its span
 pub record Global : Type 0 where
   pub name : List ℕ
   pub span : Span

@@ -1,4 +1,5 @@
--- Levels and sides in the subject's own words: which levels a rule has, and where the level and the side of a place are stated.
+-- Levels and associativities (`side`) in the subject's own terms: which levels a rule has, and where the level and the
+-- associativity of an index are stated.
 use Rattle.std.specs.Prelude.{◌≡◌, ℕ, ◌<◌, ◌≤◌, List, [], ◌∷◌, Option, Some, None, option_map}
 use Rattle.std.specs.Prelude.{option_and_then, unwrap_or, is_some, slice_get, if◌then◌else◌}
 use Rattle.lalrpop_norm_theory.specs.Rounds.{In}
@@ -24,39 +25,40 @@ IsBelow ps l m = HasLevel ps m × (m < l) × ((n : ℕ) → HasLevel ps n → m 
 abbrev pub IsHighest : List (Option Leveled) → ℕ → Type 0
 IsHighest ps m = HasLevel ps m × ((n : ℕ) → HasLevel ps n → n ≤ m)
 
--- what is stated at place k; nothing past the end
+-- what is stated at index k; nothing past the end
 abbrev pub level_stated_at : PlacedAlternatives → ℕ → Option ℕ
 level_stated_at ps k = option_and_then level_stated (slice_get ps k)
 
 abbrev pub side_stated_at : PlacedAlternatives → ℕ → Option Side
 side_stated_at ps k = option_and_then side_stated (slice_get ps k)
 
--- the level is stated at a place at or before k, and none between that place and k, k too
+-- the level is stated at an index at or before k, and none between that index and k, k included
 abbrev pub IsStatedLevel : PlacedAlternatives → ℕ → ℕ → Type 0
 IsStatedLevel ps k l =
     (j : ℕ) × (j ≤ k) × (level_stated_at ps j ≡ Some l)
     × ((i : ℕ) → j < i → i ≤ k → level_stated_at ps i ≡ None)
 
--- no place at or before k states a level
+-- no index at or before k states a level
 abbrev pub NoLevelIsStated : PlacedAlternatives → ℕ → Type 0
 NoLevelIsStated ps k = (i : ℕ) → i ≤ k → level_stated_at ps i ≡ None
 
--- the side is stated at a place at or before k, and neither a side nor a level between that place and k, k too
+-- the associativity is stated at an index at or before k, and neither an associativity nor a level between that index and k, k
+-- included
 abbrev pub IsStatedSide : PlacedAlternatives → ℕ → Side → Type 0
 IsStatedSide ps k s =
     (j : ℕ) × (j ≤ k) × (side_stated_at ps j ≡ Some s)
     × ((i : ℕ) → j < i → i ≤ k → (side_stated_at ps i ≡ None) × (level_stated_at ps i ≡ None))
 
--- each place at or before k that states a side has a place behind it, at or before k, that states a level
+-- each index at or before k that states an associativity has an index behind it, at or before k, that states a level
 abbrev pub NoSideIsStated : PlacedAlternatives → ℕ → Type 0
 NoSideIsStated ps k =
     (j : ℕ) (s : Side) → j ≤ k → side_stated_at ps j ≡ Some s → (i : ℕ) × (l : ℕ) × (j < i) × (i ≤ k)
     × (level_stated_at ps i ≡ Some l)
 
--- ---- from place to place
+-- ---- from index to index
 
--- what is stated up to a place, from what was stated before it: a level that the place states starts anew, with the side of the
--- place alone; any other place keeps what it does not state
+-- what is stated up to an index, from what was stated before it: a level stated at the index starts anew, with only the
+-- associativity of that index; any other index keeps what it does not state
 abbrev pub level_after : Option ℕ → Option AlternativeData → Option ℕ
 level_after level p = or_else (level_stated p) level
 
@@ -66,7 +68,7 @@ side_after side p = if is_some (level_stated p) then side_stated p else or_else 
 abbrev pub with_stated : Option ℕ → Option Side → AlternativeData → Leveled
 with_stated level side a = record { level = unwrap_or level 0; side = unwrap_or side every; alternative = a }
 
--- the places, where so much was stated before the first of them
+-- the indices, where that much was stated before the first of them
 abbrev pub handed_on : Option ℕ → Option Side → PlacedAlternatives → List (Option Leveled)
 handed_on level side [] = []
 handed_on level side (p ∷ ps) =

@@ -32,7 +32,7 @@ extern_enum g = first_of enum_token_of g.items
 abbrev pub first_extern : GrammarData → Option ExternTokenData
 first_extern g = first_of extern_token_of g.items
 
--- The type that the first extern block declares under a name. Types that an extern block writes are lowered as they stand.
+-- The type that the first extern block declares under a name. Types that an extern block writes are lowered as they are.
 abbrev pub declared_under : List ℕ → GrammarData → Option ReprData
 declared_under name g =
     option_map (λ (t : AssociatedTypeData). repr_of t.type_ref)
@@ -64,7 +64,7 @@ recovery_type g =
     nominal (path_of ((g.prefix ++ codes "lalrpop_util") ∷ codes "ErrorRecovery" ∷ []))
     (repr_and (unwrap_or (declared_location g) unit_type) (repr_and (token_type g) (repr_and (error_type g) no_reprs)))
 
--- ---- chosen types of patterns
+-- ---- selected types of patterns
 
 -- one type bare, several as a tuple; nothing of none
 abbrev pub type_of_chosen : List ReprData → Option ReprData
@@ -82,7 +82,7 @@ abbrev pub row_for : TerminalString → Option ReprData → List TerminalRow
 row_for t None = []
 row_for t (Some x) = (t, x) ∷ []
 
--- a conversion that chooses types gives these to its terminal
+-- a conversion that selects types gives these to its terminal
 abbrev pub conversion_row : ConversionData → List TerminalRow
 conversion_row c = row_for c.from (type_of_chosen (map repr_of (chosen_in_pattern c.to)))
 
@@ -119,7 +119,7 @@ rows_with None g = map (λ t. (t, input_str)) (named_terminals g)
 abbrev pub terminal_rows : GrammarData → List TerminalRow
 terminal_rows g = (Error, recovery_type g) ∷ rows_with (extern_enum g) g
 
--- what stands first in the rows for a terminal
+-- the first of the rows for a terminal
 abbrev pub row_of : TerminalString → List TerminalRow → Option ReprData
 row_of t [] = None
 row_of t (r ∷ rows) = if same_terminal r.0 t then Some r.1 else row_of t rows

@@ -1,4 +1,4 @@
--- The terminals that plain rules use.
+-- The terminals that an expanded grammar uses.
 use Rattle.std.specs.Prelude.{List, [], ◌∷◌, ◌++◌, flat_map}
 use Rattle.lalrpop_norm_tree_names.specs.declared.names.TerminalString.{TerminalString}
 pub use Rattle.lalrpop_norm_tree_names.specs.Terminals.{same_literal, same_terminal, literal_cmp, terminal_cmp}
@@ -7,7 +7,7 @@ use Rattle.lalrpop_norm_tree.specs.Symbols.{named, tupled, lookahead, lookbehind
 use Rattle.lalrpop_norm_tree.specs.Items.{AlternativeData, RuleData, GrammarData}
 use Rattle.lalrpop_norm_model.specs.PlainRules.{all_rules}
 
--- The terminals in a symbol, under wrappers. A kind that plain rules don't have uses none; `!` is no terminal.
+-- The terminals in a symbol, under wrappers. A kind that an expanded grammar does not have uses none; `!` is no terminal.
 abbrev mutual
   pub terminals_in : Part → List TerminalString
   terminals_in (at s k) = terminals_in_kind k

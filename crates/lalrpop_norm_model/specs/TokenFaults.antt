@@ -1,4 +1,4 @@
--- Where the pass on tokens refuses, but for what its lexer refuses: in the order of looking.
+-- All errors of the pass on tokens but those of its lexer, in visiting order.
 use Rattle.std.specs.Prelude.{Bool, true, false, not, ◌||◌, List, [], ◌∷◌, ◌++◌, flat_map, Option, Some, None}
 use Rattle.std.specs.Prelude.{bytes_eq, is_none, codes}
 use Rattle.std.specs.List.{list_any}
@@ -23,7 +23,7 @@ use Rattle.lalrpop_norm_model.specs.Terminals.{same_literal, same_terminal}
 use Rattle.lalrpop_norm_model.specs.Entries.{match_block, match_entries, item_entries, catch_all, user_names}
 use Rattle.lalrpop_norm_model.specs.TerminalTypes.{extern_enum}
 
--- f of each of a list and of what stands before it, the nearest first
+-- f of each of a list and of what is before it, the nearest first
 abbrev pub each_after : {A B : Type 0} → (List A → A → List B) → List A → List A → List B
 each_after f before [] = []
 each_after f before (x ∷ xs) = f before x ++ each_after f (x ∷ before) xs
@@ -64,7 +64,7 @@ repeated_conversion_faults before c =
 
 -- ---- symbols
 
--- the terminals in a symbol, each where it stands, under wrappers
+-- the terminals in a symbol, each with its span, under wrappers
 abbrev mutual
   pub places_in : Part → List (TerminalString × Span)
   places_in (at s k) = places_in_kind s k
@@ -87,7 +87,7 @@ abbrev pub places_in_parts : Parts → List (TerminalString × Span)
 places_in_parts no_parts = []
 places_in_parts (part_and p ps) = places_in p ++ places_in_parts ps
 
--- the terminals that alternatives use, each where it stands
+-- the terminals that alternatives use, each with its span
 abbrev pub places_used : GrammarData → List (TerminalString × Span)
 places_used g =
     flat_map (λ (r : RuleData). flat_map (λ (a : AlternativeData). places_in_parts a.parts) r.alternatives) (all_rules g)

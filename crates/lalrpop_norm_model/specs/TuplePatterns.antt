@@ -39,7 +39,7 @@ as_many no_arguments no_reprs = true
 as_many (argument_and p ps) (repr_and x xs) = as_many ps xs
 as_many _ _ = false
 
--- what is wrong over a type, where `long` tests the length of a tuple and `each` tells what is wrong in one
+-- what is wrong over a type, where `long` tests the length of a tuple and `each` lists what is wrong in one
 abbrev pub over_tuple : (Reprs → Bool) → (Reprs → List FaultKind) → ReprData → List FaultKind
 over_tuple long each (tuple ts) = if long ts then each ts else TupleLength ∷ []
 over_tuple long each _ = TupleOverType ∷ []
@@ -56,7 +56,7 @@ abbrev mutual
 
 -- ---- tuple symbols
 
--- a tuple symbol of an alternative: its patterns, and the symbol that they stand before
+-- a tuple symbol of an alternative: its patterns, and the symbol behind them
 abbrev pub Pattern : Type 0
 Pattern = ArgumentPatterns × Part
 
@@ -65,7 +65,7 @@ tuple_symbols no_parts = []
 tuple_symbols (part_and (at s (tupled ns p)) ps) = (ns, p) ∷ tuple_symbols ps
 tuple_symbols (part_and (at s k) ps) = tuple_symbols ps
 
--- a tuple pattern stands before a nonterminal, and fits its type
+-- a tuple pattern is before a nonterminal, and fits its type
 pub record PatternFits (g : GrammarData) (p : Pattern) : Type 0 where
   pub name : List ℕ
   pub type : ReprData
@@ -103,6 +103,6 @@ alternative_misfits f a = flat_map (symbol_misfits f) (tuple_symbols a.parts)
 abbrev pub rule_misfits : Table → RuleData → List Fault
 rule_misfits f r = flat_map (alternative_misfits f) r.alternatives
 
--- what is wrong with the tuple symbols of a grammar, of rules with a declared type too
+-- what is wrong with the tuple symbols of a grammar, also of rules with a declared type
 abbrev pub pattern_misfits : GrammarData → Table → List Fault
 pattern_misfits g f = flat_map (rule_misfits f) (all_rules g)

@@ -1,4 +1,4 @@
--- The types that rules have: the least relation that declared types and default alternatives keep.
+-- The derivable types of rules: the least fixpoint of the typing rules, which declared types and default alternatives give.
 use Rattle.std.specs.Prelude.{filter_map, ◌≡◌, ℕ, Bool, false, ◌||◌, List, [], ◌∷◌, Option, Some, None}
 use Rattle.std.specs.Prelude.{bytes_eq, if◌then◌else◌}
 use Rattle.lalrpop_norm_tree_names.specs.declared.names.Lifetime.{Lifetime}
@@ -45,12 +45,13 @@ associated_of g p = associated_in g.type_parameters p.ids
 abbrev pub IsRule : GrammarData → RuleData → Type 0
 IsRule g r = In r (all_rules g)
 
--- A clause of a rule, by which it has a type: it makes a written type, or it gives a location.
+-- A typing clause of a rule: it makes a written type, or it gives a location.
 pub data TypeClause : Type 0 where
   makes : TypeData → TypeClause
   locates : TypeClause
 
--- the clause of an alternative: a default one makes the type of its sources, a lookaround gives a location; any other has none
+-- the clause of an alternative: a default one makes the type of its sources, a location symbol gives a location; any other has
+-- none
 abbrev pub alternative_clause : AlternativeData → Option TypeClause
 alternative_clause a = if is_default a then Some (makes (default_type a)) else (if is_lookaround a then Some locates else None)
 
@@ -58,7 +59,7 @@ abbrev pub type_clauses_of : Option TypeData → List AlternativeData → List T
 type_clauses_of (Some t) alternatives = makes t ∷ []
 type_clauses_of None alternatives = filter_map alternative_clause alternatives
 
--- the clauses of a rule: its declared type alone; without one, those of its alternatives in order
+-- the clauses of a rule: only its declared type; without one, those of its alternatives in order
 abbrev pub type_clauses : RuleData → List TypeClause
 type_clauses r = type_clauses_of r.type_decl r.alternatives
 
@@ -84,7 +85,7 @@ mutual
     of_named : (n : Name) (s : Span) (k : Kind) (x : ReprData) → Gives g k x → Gives g (named n (at s k)) x
     of_tupled : (ns : ArgumentPatterns) (s : Span) (k : Kind) (x : ReprData) → Gives g k x → Gives g (tupled ns (at s k)) x
 
-  -- A written type means the type x: each symbol in it gives what stands in its place. A path that is an associated type is
+  -- A written type means the type x: each symbol in it gives its type in place of it. A path that is an associated type is
   -- that one, its arguments dropped unread; a single name is a path without arguments; all else stays as it is written.
   pub data Means (g : GrammarData) : TypeData → ReprData → Type 0 where
     means_symbol : (k : Kind) (x : ReprData) → Gives g k x → Means g (of_symbol k) x
@@ -103,7 +104,7 @@ mutual
     means_function : (fs : List TypeParameter) (p : PathData) (ts : TypesData) (r : MaybeType) (xs : Reprs) (y : MaybeRepr) →
         MeanAll g ts xs → MeansReturn g r y → Means g (function fs p ts r) (lowered.function fs p xs y)
 
-  -- the same of types in a row
+  -- the written types in a list mean these types
   pub data MeanAll (g : GrammarData) : TypesData → Reprs → Type 0 where
     mean_none : MeanAll g no_types lowered.no_reprs
     mean_and : (t : TypeData) (ts : TypesData) (x : ReprData) (xs : Reprs) → Means g t x → MeanAll g ts xs →

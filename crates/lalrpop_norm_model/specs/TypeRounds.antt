@@ -1,4 +1,4 @@
--- Rounds of inference: the order in which rules take their types. It matters only for the place of a disagreement.
+-- Rounds of inference: the order in which rules take their types. It matters only for the span of a disagreement.
 use Rattle.std.specs.Prelude.{◌≡◌, ℕ, zero, suc, List, [], ◌∷◌, length, Option, Some, None, bytes_eq}
 use Rattle.std.specs.Prelude.{if◌then◌else◌}
 use Rattle.lalrpop_norm_tree.specs.Accessors.{or_else}

@@ -1,4 +1,4 @@
--- What a table of types makes of written types, and when it is the relation of the types that rules have.
+-- What a table of types makes of written types, and when it is the relation of the derivable types of rules.
 use Rattle.std.specs.Prelude.{◌≡◌, ◌↔◌, ℕ, List, Option, Some, None, option_map, IsSome}
 use Rattle.lalrpop_norm_tree.specs.Items.{RuleData, GrammarData}
 use Rattle.lalrpop_norm_tree.specs.LoweredTypes.{named_path}
@@ -73,7 +73,7 @@ abbrev pub clause_value : GrammarData → Table → TypeClause → Option ReprDa
 clause_value g f (makes t) = type_value g f t
 clause_value g f locates = declared_location g
 
--- each type in the table is had
+-- each type in the table is derivable
 abbrev pub IsSound : GrammarData → Table → Type 0
 IsSound g f = (n : List ℕ) (x : ReprData) → f n ≡ Some x → Has g n x
 

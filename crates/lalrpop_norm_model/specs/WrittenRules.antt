@@ -1,4 +1,4 @@
--- The rules of a grammar as their trees see them: names resolved, alternatives at their written places, with levels.
+-- The rules of a grammar as their trees see them: names resolved, alternatives at their written indices, with levels.
 use Rattle.std.specs.Prelude.{ℕ, Bool, false, ◌++◌, List, [], ◌∷◌, map, Option, Some, None, option_map, bytes_eq}
 use Rattle.std.specs.Prelude.{if◌then◌else◌}
 use Rattle.lalrpop_norm_tree_names.specs.declared.names.NonterminalString.{NonterminalString}
@@ -9,7 +9,7 @@ use Rattle.lalrpop_norm_model.specs.Enabled.{PlacedAlternatives, enabled_places,
 use Rattle.lalrpop_norm_model.specs.Scopes.{Global, globals, sense_of, resolved_alternative}
 use Rattle.lalrpop_norm_model.specs.Levels.{Leveled, has_levels, with_levels, without_levels}
 
--- a rule, or a macro where it has arguments; place k holds its alternative of number k, if that is enabled
+-- a rule, or a macro if it has arguments; index k holds its alternative k, if that is enabled
 pub record WrittenRule : Type 0 where
   pub name : List ℕ
   pub args : List NonterminalString

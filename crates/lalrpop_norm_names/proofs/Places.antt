@@ -1,11 +1,11 @@
--- The first place of a name in a list that is read from its end.
+-- The first index of a name in a list that is read from its end.
 use Rattle.std.proofs.Common.{◌≡◌, ◌<◌, ◌+◌, ℕ, List, [], ◌∷◌, refl, Option, Some, None, cond, drop, length, get_or, ap, sym, bytes_eq, arith}
 use Rattle.std.specs.List.{position_from}
 use Rattle.std.proofs.lemmas.List.{at_drop_more, drop_all}
 use Rattle.std.proofs.lemmas.Iterator.Adapters.{position_from-zero}
 use Rattle.lalrpop_norm_names.specs.Numbers.{first_place, number_by}
 
--- the first place of a name from a place on
+-- the first index of a name from an index on
 abbrev pub place_from : List (List ℕ) → ℕ → List ℕ → Option ℕ
 place_from names i name = position_from (λ stands. bytes_eq stands name) i (drop i names)
 

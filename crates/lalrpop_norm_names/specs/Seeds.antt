@@ -12,7 +12,7 @@ hasher_after hasher writes = fold write hasher writes
 abbrev pub reader_of : List (List ℕ) → DefaultHasher
 reader_of texts = hasher_after initial (flat_map str texts)
 
--- 64 bits of a hasher, and 64 more: its answer, and that after it has read this
+-- 64 bits of a hasher, and 64 more: its answer, and its answer after it has read the first
 abbrev pub first_half : DefaultHasher → ℕ
 first_half reader = finish reader
 

@@ -1,4 +1,4 @@
-//! Which number a name has in a list of names, with a look-up that takes the same time however many there are.
+//! The index of a name in a list of names, with a look-up in constant time.
 #![tactic(auto)]
 
 mod seeded;

@@ -14,7 +14,7 @@ pub struct Seeded {
 }
 
 impl Seeded {
-    /// The seed is 128 bits that all decides which a hasher has read: so whoever changes any of it changes each hash.
+    /// The seed is 128 bits that depend on all that a hasher has read. Whoever changes any of it changes each hash.
     pub fn after(mut reader: DefaultHasher) -> Seeded
         ensures { result.start ≡ seeded_after reader }
     {
@@ -26,7 +26,7 @@ impl Seeded {
         Seeded { start }
     }
 
-    /// Without a seed, for a table of nothing: nothing in it can be chosen to collide.
+    /// Without a seed, for an empty table: nothing in it can be chosen to collide.
     pub(crate) fn of_nothing() -> Seeded
         ensures { result.start ≡ initial }
     {

@@ -1,4 +1,4 @@
-//! The table from names to numbers.
+//! The table from names to indices.
 ghost use Rattle.std.specs.Prelude.{◌≡◌, ◌<◌, [], length, IfOk, map};
 ghost use Rattle.lalrpop_norm_names.specs.Numbers.{first_place, number_in_table, IsNumbering};
 
@@ -8,23 +8,23 @@ use shared_text::{Atom, NoMemory};
 use std::alloc::Global;
 use std::collections::HashMap;
 
-/// So many names are compared one by one: that takes no longer than to hash one.
+/// Up to this many names are compared one by one: that takes no longer than to hash one.
 const FEW: usize = 8;
 
-/// The numbers of the names in a list: each has the first place at which it stands there, counted from 0.
+/// The indices of the names in a list: each name has the first index at which it is in the list, from 0.
 ///
-/// A look-up takes the time of one hash and one comparison, or of a few comparisons, for names that someone chose to make it slow
-/// too. So no name can be added later: it would not be in the seed of the hash.
+/// A look-up takes the time of one hash and one comparison, or of a few comparisons, also for names that someone chose to make it
+/// slow. No name can be added later, since it would not be in the seed of the hash.
 #[derive(Drop)]
 pub struct Names {
-    /// The names, where there are some, and few.
+    /// The names, if there are some, and few.
     few: Vec<Atom>,
-    /// Else the number of each.
+    /// Else the index of each.
     many: HashMap<Atom, usize, Seeded>,
 }
 
 impl Names {
-    /// Of the names in a list, which may stand there more than once. The only error is want of memory.
+    /// The table of the names in a list, which may hold a name more than once. The only error is a failed allocation.
     pub fn of(alloc: Global, names: &[NonterminalString]) -> Result<Names, NoMemory>
         ensures { IfOk result (IsNumbering (map (λ n. n.0) names.now)) }
     {
@@ -37,7 +37,7 @@ impl Names {
         many_names(alloc, names)
     }
 
-    /// The number of a name, if it stands in the list.
+    /// The index of a name, if it is in the list.
     pub fn number(&self, name: &NonterminalString) -> Option<usize>
         ensures { result ≡ number_in_table self.now name.now.0 }
     {
@@ -84,7 +84,7 @@ fn many_names(alloc: Global, names: &[NonterminalString]) -> Result<Names, NoMem
     })
 }
 
-/// The first place at which a name stands, if it does.
+/// The first index of a name, if it is in the list.
 fn place_among(names: &[Atom], name: &Atom) -> Option<usize>
     ensures { result ≡ first_place names.now name.now }
 {

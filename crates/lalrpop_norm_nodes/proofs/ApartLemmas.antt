@@ -1,4 +1,4 @@
--- Two symbols are the same apart from spans exactly where they are equal with their spans taken off.
+-- Two symbols are equal up to spans if and only if they are equal with their spans taken off.
 use Rattle.std.proofs.Common.{◌≡◌, ◌↔◌, ℕ, ◌+◌, Bool, true, refl, sym, ap, ap₂, ◌∙◌}
 use Rattle.std.specs.Prelude.{IsTrue}
 use Rattle.lalrpop_norm_tree_names.specs.declared.names.TerminalString.{TerminalString}
@@ -18,7 +18,7 @@ use Rattle.lalrpop_norm_model.specs.MadeRules.{flat_reader}
 use Rattle.lalrpop_norm_model.specs.PlainRules.{same_apart_from_spans}
 use Rattle.lalrpop_norm_nodes.specs.Apart.{nowhere, unplaced_kind, unplaced, all_unplaced}
 
--- ---- a closed symbol is read from the symbol with its spans taken off
+-- ---- a ground symbol is read from the symbol with its spans taken off
 
 mutual
   kind_closed : (b a before after : ℕ) (k : Kind) → read_kind flat_reader b a (unplaced_kind k) ≡ read_kind flat_reader before after k

@@ -1,4 +1,4 @@
--- A symbol that is entered: it stands already, or it is new.
+-- A symbol that is interned: it is there already, or it is new.
 use Rattle.std.proofs.Common.{◌≡◌, ℕ, ◌+◌, length, length-append, Bool, true, false, List, [], ◌∷◌, ◌++◌, map, Option, Some, None, Result, is_some, refl, sym, ap, ap₂, ◌∙◌, subst, append-nil, Vec, Global, slice_get, option_and_then}
 use Rattle.std.specs.Prelude.{not, ◌||◌}
 use Rattle.std.specs.List.{flat_map}
@@ -31,7 +31,7 @@ use Rattle.lalrpop_norm_nodes.proofs.WaitLemmas.{waits_seen, waits_new}
 use Rattle.lalrpop_norm_nodes.proofs.WaitNumbers.{numbers_stay}
 use Rattle.lalrpop_norm_tree.specs.SymbolTexts.{part_text, kind_text}
 
--- ---- a symbol that stands already
+-- ---- a symbol that is there already
 
 pub stands_met : (t : Table) (w : Whole) (i : ℕ) (x : List ℕ) (s : Span) → IsNodeTable t → StandsFor (wholes_in t) i w → own_text_in w ≡ Some x →
     (refused_in t (own_at s w) ≡ []) × TableMeets t t (own_at s w)
@@ -59,7 +59,7 @@ module _ (t : Table) (w : Whole) (x : List ℕ) (h : IsNodeTable t) (some : own_
   m : Made w x
   m = one_made w x some
 
-  -- none that was met is the same
+  -- none that was reached is the same
   another : (y : Part) → first_with_text x (seen_in t) ≡ Some y → (s : Span) → same_apart_from_spans y (at s m.kind) ≡ false
   another y e s = by (same_apart_from_spans y (at s m.kind)) refl (seen_stands x (wholes_in t) y e)
     where
@@ -82,7 +82,7 @@ module _ (t : Table) (w : Whole) (x : List ℕ) (h : IsNodeTable t) (some : own_
   differ None s e = refl
   differ (Some y) s e = ap not (another y e s)
 
-  -- it is refused where its text is taken
+  -- it is an error where its text is taken
   pub clash_is : (s : Span) → refused_in t (own_at s w) ≡ fault_if (is_declared_in t x || is_some (first_with_text x (seen_in t))) (SharedName, s)
   clash_is s =
       ap (refused_in t) (m.at_place s)
@@ -148,7 +148,7 @@ made_meets a b d n x s h fit new some first nodes names more table seen grows = 
 pub err_same : {T : Type 0} (r : Result T NormFailure) (e : NormFailure) (fs gs : List Fault) → gs ≡ fs → IsErrAnd r (λ x. x ≡ e) → IsFirst fs e → Refuses r gs
 err_same r e fs gs same from h = err_refuses r e gs from (subst (λ (hs : List Fault). IsFirst hs e) (sym same) h)
 
--- ---- and waits
+-- ---- and is added to the worklist
 
 pub meets_waiting : (a b d : Table) (xs : List Part) → TableMeets a b xs → IsNodeTable d → d.nodes ≡ b.nodes → d.names ≡ b.names → TableMeets a d xs
 meets_waiting a b d xs h table nodes names = record {
@@ -158,13 +158,13 @@ meets_waiting a b d xs h table nodes names = record {
   table = table;
 }
 
--- the number of a node that is made into a rule has its text
+-- the number of a node that is desugared has its text
 pub numbered_by : (a f : Table) (ws : List Whole) (i : ℕ) (n : Node) (t : List ℕ) → f.nodes ≡ a.nodes → StandsFor ws i (built (wholes_in f) n) →
     own_text_in (built (wholes_in a) n) ≡ Some t → option_and_then own_text_in (slice_get ws i) ≡ Some t
 numbered_by a f ws i n t nodes stands some =
     ap (option_and_then own_text_in) stands ∙ ap (λ (ns : Nodes). own_text_in (built (wholes ns) n)) nodes ∙ some
 
--- the first symbol of the text of one that stands
+-- the first symbol of the text of one that is there
 seen_first : (t : Table) (w : Whole) (i : ℕ) (x : List ℕ) → IsNodeTable t → StandsFor (wholes_in t) i w → own_text_in w ≡ Some x →
     (y : Part) × (first_with_text x (seen_in t) ≡ Some y)
 seen_first t w i x h e some =
@@ -183,7 +183,7 @@ seen_first t w i x h e some =
 pub stands_waits : (t : Table) (w : Whole) (i : ℕ) (p : Part) → IsNodeTable t → StandsFor (wholes_in t) i w → own_text_in w ≡ Some (part_text p) → LeavesWaiting t t (p ∷ [])
 stands_waits t w i p h e some = let y = seen_first t w i (part_text p) h e some in waits_seen t p y.0 y.1
 
--- where a node was put of a text that is new, and its symbol waits
+-- where a node was put of a text that is new, and its symbol is on the worklist
 pub made_waits : (a f b d : Table) (n : Node) (p : Part) (i : ℕ) → IsNodeTable a → own_text_in (built (wholes_in a) n) ≡ Some (part_text p) →
     first_with_text (part_text p) (seen_in a) ≡ None → f.nodes ≡ a.nodes → f.waiting ≡ a.waiting →
     seen_in b ≡ seen_in f ++ own_in (built (wholes_in f) n) → b.waiting ≡ f.waiting → Grows (wholes_in f) (wholes_in b) → StandsFor (wholes_in b) i (built (wholes_in f) n) →

@@ -1,4 +1,4 @@
--- What is met first, by the texts that were seen.
+-- What is reached first, by the texts that were seen.
 use Rattle.std.proofs.Common.{◌≡◌, ℕ, List, [], ◌∷◌, ◌++◌, Bool, true, false, cond, map, length, drop, Option, Some, None, is_some, bytes_eq, refl, sym, ap, ◌∙◌, append-nil, append_assoc}
 use Rattle.std.proofs.Math.Seq.{drop-append_seam}
 use Rattle.std.proofs.lemmas.List.{map-append}

@@ -1,4 +1,4 @@
--- What is given stays, and has one text with what stands in its place.
+-- What arguments are bound to stays, and has the same text as its rewritten symbol.
 use Rattle.std.proofs.Common.{◌≡◌, ℕ, List, ◌∷◌, ◌++◌, Option, Some, None, option_map, codes, refl, sym, ap, ap₂, ◌∙◌, subst}
 use Rattle.std.proofs.Math.Path.{fun_ext}
 use Rattle.lalrpop_norm_tree_names.specs.Texts.{joined}
@@ -13,7 +13,7 @@ use Rattle.lalrpop_norm_nodes.specs.Filled.{filled, filled_kind, all_filled, ins
 use Rattle.lalrpop_norm_nodes.specs.Given.{given_in, whole_for, shown_for, IsGiven, AreGiven}
 use Rattle.lalrpop_norm_nodes.proofs.RowLemmas.{symbol_stays, is_kind_stays}
 
--- ---- numbers keep what they stand for
+-- ---- ids keep what they stand for
 
 pub given_stays : (ws vs : List Whole) (g : Given) → Grows ws vs → IsGiven ws g → IsGiven vs g
 given_stays ws vs g (more, e) h = subst (λ (us : List Whole). IsGiven us g) (sym e) (record {
@@ -107,7 +107,7 @@ given_texts : (ws : List Whole) (o : Option Given) → ((g : Given) → o ≡ So
 given_texts ws None h = refl
 given_texts ws (Some g) h = ap Some (h g refl).text
 
--- what stands in the place of a symbol that is read has the symbol's text
+-- what a symbol that is read is rewritten to has the symbol's text
 pub shown_text : (ws : List Whole) (e : Environment) → AreGiven ws e → (k : Kind) →
     kind_text (inside_replaced (filled_kind (shown_for e) k)) ≡ kind_text (filled_kind (whole_for ws e) k)
 shown_text ws e h k =

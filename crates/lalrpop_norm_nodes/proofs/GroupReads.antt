@@ -1,4 +1,4 @@
--- What is told of a group and of a call that were read, the symbols in which stand in a row.
+-- What is known of a group and of a call that were read, the symbols in which are in a row.
 use Rattle.std.proofs.Common.{◌≡◌, ℕ, List, Result, Ok, length, map, refl, sym, ap, ap₂, ◌∙◌, subst}
 use Rattle.std.specs.Result.{IsErrAnd}
 use Rattle.std.specs.Vec.{with_items}
@@ -72,7 +72,7 @@ module _ (a b : Table) (e : Environment) (ss now : List Symbol) where
         node = call_for (wholes_in a) (wholes_in b) e i (map symbol_view ss) n o refl h.number;
       })
 
--- an error is handed on
+-- an error is passed on
 pub refused_group : (r : Result Node NormFailure) (a b : Table) (e : Environment) (ss : List Symbol) (g : ExprSymbol) (now : Parts) (f : NormFailure) → IsErrAnd r (λ y. y ≡ f) → ss ≡ (out-ExprSymbol g).symbols.items →
     IsFirst (refused_in a (all_met (all_filled (whole_for (wholes_in a) e) (parts_view ss)))) f → GroupRead r a b e (expr_view g) now
 refused_group r a b e ss g now f from is h = refused_node r a b _ _ _ _ f from

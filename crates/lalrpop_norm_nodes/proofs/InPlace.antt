@@ -1,4 +1,4 @@
--- A list whose elements are replaced one after another, and what they meet.
+-- A list whose elements are replaced one after another, and what they reach.
 use Rattle.std.proofs.Common.{◌≡◌, ℕ, ◌+◌, ◌<◌, List, [], ◌∷◌, ◌++◌, length, map, take, drop, set, get_or, sym, ap, ◌∙◌, arith, append-nil, append_assoc, Result}
 use Rattle.std.specs.List.{flat_map}
 use Rattle.std.specs.Result.{IsErrAnd}
@@ -14,7 +14,7 @@ use Rattle.lalrpop_norm_nodes.proofs.MeetingLemmas.{refuses_same, clash_both}
 use Rattle.lalrpop_norm_nodes.specs.Tables.{is_declared_in, seen_in, TableMeets, refused_in}
 use Rattle.lalrpop_norm_nodes.proofs.MeetLemmas.{meets_both, refused_later}
 
--- the exit by `?` where the first of what is met is refused
+-- the exit by `?` where the first of what is reached is an error
 pub exit_first : {T : Type 0} (a : Table) (xs ys : List Part) (r : Result T NormFailure) (e : NormFailure) →
     IsErrAnd r (λ x. x ≡ e) → IsFirst (refused_in a xs) e → Refuses r (refused_in a (xs ++ ys))
 exit_first a xs ys r e from first =

@@ -1,4 +1,4 @@
--- Where a symbol was met, what is inside each one that is the same was met as well, so that meeting it changes nothing.
+-- Where a symbol was reached, what is inside each one that is the same was reached as well, so that meeting it changes nothing.
 use Rattle.std.proofs.Common.{◌≡◌, ℕ, List, [], ◌∷◌, ◌++◌, Bool, true, false, cond, Option, Some, None, map, bytes_eq, refl, sym, ap, ap₂, ◌∙◌, subst, append-nil}
 use Rattle.std.specs.Prelude.{not, ◌||◌, ◌&&◌, is_some}
 use Rattle.std.proofs.lemmas.Bool.{and_parts, and_from}
@@ -43,7 +43,7 @@ first_stays t (x ∷ seen) more y e = by (bytes_eq (part_text x) t) (first_stays
     by false deeper h = deeper h
 
 module _ (names : List ℕ → Bool) where
-  -- a symbol that was met: which one of its text was met first
+  -- a symbol that was reached: which one of its text was reached first
   pub record Found (seen : List Part) (x : Part) : Type 0 where
     pub one : Part
     pub is_first : first_with_text (part_text x) seen ≡ Some one
@@ -64,7 +64,7 @@ module _ (names : List ℕ → Bool) where
   clash_of : (seen : List Part) (x : Part) → Found seen x → clashes names seen x ≡ false
   clash_of seen x f = ap (λ (o : Option Part). names (part_text x) || differs o x) f.is_first ∙ f.free
 
-  -- ---- what was met stays met
+  -- ---- what was reached stays reached
 
   stays : (seen more : List Part) (x : Part) → was_met names seen x ≡ true → was_met names (seen ++ more) x ≡ true
   stays seen more x h =
@@ -88,7 +88,7 @@ module _ (names : List ℕ → Bool) where
   stays_after seen [] z h = h
   stays_after seen (x ∷ xs) z h = stays_after (after_one seen x) xs z (stays_one seen x z h)
 
-  -- ---- what is met was met then
+  -- ---- what is reached was reached then
 
   met_once : (seen : List Part) (x : Part) → clashes names seen x ≡ false → was_met names (after_one seen x) x ≡ true
   met_once seen x h = by (first_with_text (part_text x) seen) refl
@@ -111,7 +111,7 @@ module _ (names : List ℕ → Bool) where
       let p = none_if (clashes names seen x) (SharedName, span_of x) (clash_faults names (after_one seen x) xs) h in
       and_from _ _ (stays_after (after_one seen x) xs x (met_once seen x p.0)) (met_then (after_one seen x) xs p.1)
 
-  -- ---- meeting what was met changes nothing
+  -- ---- meeting what was reached changes nothing
 
   pub quiet : (seen xs : List Part) → were_met names seen xs ≡ true → (clash_faults names seen xs ≡ []) × (after seen xs ≡ seen)
   quiet seen [] h = (refl, refl)

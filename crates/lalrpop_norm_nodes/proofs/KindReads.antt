@@ -1,4 +1,4 @@
--- What is told of a kind of symbol that was read: what it met, what stands in its place, and its node.
+-- What is known of a kind of symbol that was read: what it reached, what it was rewritten to, and its node.
 use Rattle.std.proofs.Common.{◌≡◌, ℕ, List, [], Bool, true, false, Result, Ok, Err, Box, Global, map, None, Option, Some, option_map, refl, sym, ap, ap₂, ◌∙◌, subst}
 use Rattle.std.specs.Result.{IfOk, OnOk, IsErrAnd}
 use Rattle.lalrpop_norm_faults.specs.declared.failure.NormFailure.{NormFailure}
@@ -45,7 +45,7 @@ use Rattle.lalrpop_norm_nodes.proofs.RowRounds.{RowEntered}
 use Rattle.lalrpop_norm_nodes.proofs.SymbolReads.{SymbolRead, RepeatRead}
 use Rattle.lalrpop_norm_nodes.proofs.WaitLemmas.{waits_nothing, waits_row}
 
--- these were met, and these are where they wait
+-- these were reached, and these are on the worklist for them
 abbrev pub NodeRead : Result Node NormFailure → Table → Table → List Part → List Part → Type 0 → (Node → Type 0) → Type 0
 NodeRead r a b xs ys Now Is = record {
   refuses : Refuses r (refused_in a xs);
@@ -56,7 +56,7 @@ NodeRead r a b xs ys Now Is = record {
   node : IfOk r Is;
 }
 
--- an error is handed on
+-- an error is passed on
 pub refused_node : (r : Result Node NormFailure) (a b : Table) (xs ys : List Part) (Now : Type 0) (Is : Node → Type 0) (f : NormFailure) → IsErrAnd r (λ g. g ≡ f) → IsFirst (refused_in a xs) f →
     NodeRead r a b xs ys Now Is
 refused_node (Ok n) a b xs ys Now Is f from h = absurd from

@@ -1,4 +1,4 @@
--- Symbols and patterns in a row are told from the row.
+-- Symbols and patterns in a row are determined by the row.
 use Rattle.std.proofs.Common.{◌≡◌, ℕ, ◌<◌, List, [], ◌∷◌, length, map, get_or, refl, sym, ap, ◌∙◌}
 use Rattle.std.proofs.lemmas.List.{length-map, get_or-map}
 use Rattle.lalrpop_norm_tree.specs.declared.symbol.Symbol.{Symbol}

@@ -1,4 +1,4 @@
--- Which kinds of symbols are made into rules, one kind after another.
+-- Which kinds of symbols are desugared, one kind after another.
 use Rattle.std.proofs.Common.{◌≡◌, ◌⊎◌, inl, inr, List, ℕ, Bool, true, false, Box, Global, refl, ap, sym, ◌∙◌, is_some}
 use Rattle.lalrpop_norm_tree_names.specs.declared.names.NonterminalString.{NonterminalString}
 use Rattle.lalrpop_norm_tree_names.specs.declared.names.TerminalString.{TerminalString}

@@ -1,4 +1,4 @@
--- Symbols met in two parts, spans aside; and what stands already.
+-- Symbols reached in two parts, up to spans; and what is there already.
 use Rattle.std.proofs.Common.{◌≡◌, ℕ, List, [], ◌∷◌, ◌++◌, Bool, true, false, cond, map, Option, Some, None, option_map, bytes_eq, refl, sym, ap, ap₂, ◌∙◌, append-nil, append_assoc}
 use Rattle.std.specs.Prelude.{not, ◌||◌}
 use Rattle.std.proofs.lemmas.Bool.{and_parts, and_from}
@@ -23,7 +23,7 @@ use Rattle.lalrpop_norm_nodes.specs.declared.table.Table.{Table}
 use Rattle.lalrpop_norm_nodes.specs.Wholes.{Whole, one_symbol, StandsFor, Grows}
 use Rattle.lalrpop_norm_nodes.specs.Tables.{wholes_in, is_declared_in, seen_in, IsNodeTable, TableMeets, refused_in}
 
--- ---- spans of what was met add nothing
+-- ---- spans of what was reached add nothing
 
 pub text_unplaced : (p : Part) → part_text (unplaced p) ≡ part_text p
 text_unplaced p = closed_text_same (unplaced p) p (part_closed 0 0 0 0 p)
@@ -98,7 +98,7 @@ refused_both a b xs ys h =
 pub refused_later : (a b : Table) (xs ys : List Part) → TableMeets a b xs → refused_in a xs ≡ [] → refused_in a (xs ++ ys) ≡ refused_in b ys
 refused_later a b xs ys h none = refused_both a b xs ys h ∙ ap (λ (fs : List Fault). fs ++ refused_in b ys) none
 
--- ---- a symbol that stands meets nothing new, wherever it is
+-- ---- a symbol that is there reaches nothing new, wherever it is
 
 own_moved : (names : List ℕ → Bool) (seen : List Part) (s : Span) (k : Kind) → were_met names seen (own nowhere k) ≡ true → were_met names seen (own s k) ≡ true
 own_moved names seen s k h = by k h
@@ -162,7 +162,7 @@ standing_met t i k s h e =
       },
     )
 
--- ---- nothing is met
+-- ---- nothing is reached
 
 pub meets_nothing : (t : Table) → IsNodeTable t → TableMeets t t []
 meets_nothing t h = record { seen = refl; names = refl; grows = ([], sym (append-nil (wholes_in t))); table = h }

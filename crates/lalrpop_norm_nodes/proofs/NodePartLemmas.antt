@@ -133,6 +133,6 @@ module _ (ns : List Node) (ws : List Whole) (rows : AreRows ns ws) (i : ℕ) whe
   pub row_ends : (n : Node) → Some n ≡ slice_get ns i → AreSymbols ws i → EndsRow ws (symbols_at ws i) (last_in_row n)
   row_ends n e h = row_of ws n (symbols_at ws i) (rows.fit i n (sym e)) (stands_by n _ e h)
 
-  -- where a number stands for something there is one
+  -- where an id stands for something there is one
   pub no_node : (w : Whole) → None ≡ slice_get ns i → StandsFor ws i w → ⊥
   no_node w e h = let (n, k) = node_at ns ws rows i w h in cc (e, k)

@@ -99,7 +99,7 @@ position_new test xs i x e h =
     by true f g k = absurd (cc g)
     by false f g k = grind (arith, nat_tests)
 
--- the place at which a search ends
+-- the index at which a search ends
 pub place_found : {A : Type 0} (test : A → Bool) (xs : List A) (i : ℕ) → position test xs ≡ Some i → position_or_len test xs ≡ i
 place_found test xs i e = by (nat_lt (position_or_len test xs) (length xs)) e
   where

@@ -91,7 +91,7 @@ put {V} es fs n v i e at rows fit new = record {
     place : i ≡ length ws
     place = at ∙ sym (length-map es (λ e. e.0)) ∙ sym rows.long
 
--- ---- a node that is made into no rule
+-- ---- a node that is not desugared
 
 -- a row that is put once more stays
 put_again : {V : Type 0} (es : List (Node × V)) (n : Node) (v : V) → slice_get (map (λ e. e.1) es) (position_or_len (same_node n) (map (λ e. e.0) es)) ≡ Some v →

@@ -1,4 +1,4 @@
--- What is put in the place of a symbol, and what it meets.
+-- What a symbol is rewritten to, and what it reaches.
 use Rattle.std.proofs.Common.{◌≡◌, ℕ, List, [], ◌∷◌, ◌++◌, Bool, Option, Some, None, map, option_map, refl, sym, ap, ap₂, ◌∙◌, subst}
 use Rattle.lalrpop_norm_tree_names.specs.declared.names.Span.{Span}
 use Rattle.lalrpop_norm_tree.specs.declared.symbol.Symbol.{Symbol}
@@ -30,7 +30,7 @@ use Rattle.lalrpop_norm_nodes.specs.Filled.{inside_replaced}
 use Rattle.lalrpop_norm_nodes.specs.Readings.{topped, topped_kind}
 use Rattle.lalrpop_norm_nodes.proofs.GivenLemmas.{inside_text, shown_text}
 
--- a symbol, its parts replaced, with itself replaced is the symbol replaced
+-- a symbol, its parts rewritten, itself rewritten, is the symbol rewritten
 pub topped_inside : (k : Kind) → topped_kind (inside_replaced k) ≡ replaced_kind k
 topped_inside (group ps) = ap nonterminal (inside_text (group ps))
 topped_inside (call n ps) = ap nonterminal (inside_text (call n ps))
@@ -67,7 +67,7 @@ mutual
   all_unplaced_twice no_parts = refl
   all_unplaced_twice (part_and p ps) = ap₂ part_and (part_unplaced_twice p) (all_unplaced_twice ps)
 
--- ---- a symbol that is read meets what is inside it, then itself
+-- ---- a symbol that is read reaches what is inside it, then itself
 
 module _ (names : List ℕ → Bool) (seen : List Part) (s : Span) where
   clash_unplaced : (k : Kind) → clashes names seen (at s (unplaced_kind k)) ≡ clashes names seen (at s k)
@@ -124,7 +124,7 @@ module _ (names : List ℕ → Bool) (seen : List Part) (s : Span) where
   own_after (nonterminal n) = refl
   own_after error_terminal = refl
 
--- met, and refused, in the words of the whole symbol
+-- reached, and its errors, in terms of the whole symbol
 pub read_meets : (a b d : Table) (s : Span) (k : Kind) → TableMeets a b (met_inside k) → TableMeets b d (own_at s (one_symbol (unplaced_kind k))) → TableMeets a d (met (at s k))
 read_meets a b d s k h g =
     subst (λ (xs : List Part). TableMeets a d xs) (sym (split_at s k))

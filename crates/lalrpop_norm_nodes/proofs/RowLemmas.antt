@@ -1,4 +1,4 @@
--- What numbers stand for, once more stand behind them.
+-- What ids stand for, once more are behind them.
 use Rattle.std.proofs.Common.{◌≡◌, ℕ, ◌<◌, suc, zero, List, [], ◌∷◌, ◌++◌, length, Some, slice_get, refl, sym, ap, ap₂, ◌∙◌, subst, arith, if◌then◌else◌, true, false, get_or}
 use Rattle.std.proofs.lemmas.Option.{slice_get_within, slice_get-get_or}
 use Rattle.std.proofs.lemmas.List.{length-append}
@@ -41,7 +41,7 @@ slice_behind (z ∷ xs) y (suc i) x e = further (slice_behind xs y i x e)
     further (before h) = before h
     further (last h k) = last (ap suc h) k
 
--- ---- what a number stands for stays
+-- ---- what an id stands for stays
 
 module _ (ws more : List Whole) where
   pub symbol_stays : (n : ℕ) → IsKind ws n → kind_at (ws ++ more) n ≡ kind_at ws n
@@ -150,7 +150,7 @@ rows_more ns ws n rows fit new = record {
     apart_of i j v (last h l) (before k) = absurd (new j (k ∙ ap Some l))
     apart_of i j v (last h l) (last k m) = h ∙ sym k
 
--- ---- a node is told by what it stands for
+-- ---- a node is determined by what it stands for
 
 last_apart : {A : Type 0} (xs ys : List A) (x y : A) → xs ++ x ∷ [] ≡ ys ++ y ∷ [] → (xs ≡ ys) × (x ≡ y)
 last_apart [] [] x y e = (refl, cc e)
@@ -164,7 +164,7 @@ last_apart {A} (z ∷ xs) (v ∷ ys) x y e =
     let rest = last_apart xs ys x y tail in
     (ap₂ (λ (a : A) (bs : List A). a ∷ bs) head rest.0, rest.1)
 
--- the node of what stands there, as far as numbers tell it
+-- the node of what is there, as far as ids determine it
 abbrev OfRow : List Whole → List Part → Node → Type 0
 OfRow ws ps n = (l : ℕ) × (k : ℕ) × (qs : List Part) × (x : Kind) × (n ≡ node.Binary binary.Symbols l k) × StandsFor ws l (symbols qs) × StandsFor ws k (one_symbol x) × (qs ++ at nowhere x ∷ [] ≡ ps)
 
@@ -301,7 +301,7 @@ module _ (ns : List Node) (ws : List Whole) (rows : AreRows ns ws) where
   node_told m n h k e =
       one_node (built ws n) m n (subst (λ (w : Whole). IsNodeOf ws w m) e (is_node_of ws m h)) (is_node_of ws n k)
 
--- what stands has a node
+-- what is there has a node
 pub node_at : (ns : List Node) (ws : List Whole) → AreRows ns ws → (i : ℕ) (w : Whole) → slice_get ws i ≡ Some w → (m : Node) × (slice_get ns i ≡ Some m)
 node_at ns ws rows i w h = by ns (subst (λ (k : ℕ). i < k) rows.long (slice_get_within ws i w h))
   where

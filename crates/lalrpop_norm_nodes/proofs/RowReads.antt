@@ -29,7 +29,7 @@ shown_one_by_one f (p ∷ ps) = ap (λ qs. part_and (replaced (filled f p)) qs) 
 pub first_same : (xs ys : List Fault) (e : NormFailure) → xs ≡ ys → IsFirst xs e → IsFirst ys e
 first_same xs ys e h k = subst (λ (fs : List Fault). IsFirst fs e) h k
 
--- and then a row is entered, which meets nothing
+-- and then a row is entered, which reaches nothing
 pub counted_row : (d z : Table) → IsCounted d → z.made ≡ d.made → TableMeets d z [] → IsCounted z
 counted_row d z h same k =
     ap (λ (n : Counter). n.count) same ∙ h ∙ sym (length-map (seen_in d) unplaced) ∙ ap length (sym k.seen) ∙ length-map (seen_in z) unplaced

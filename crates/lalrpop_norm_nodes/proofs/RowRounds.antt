@@ -29,7 +29,7 @@ use Rattle.lalrpop_norm_nodes.proofs.SymbolReads.{NumberRead, SymbolRead, refuse
 use Rattle.lalrpop_norm_nodes.proofs.WaitLemmas.{waits_plain, waits_row}
 use Rattle.lalrpop_norm_nodes.proofs.WaitReads.{shown_met_one_by_one, partly_waits}
 
--- a row was entered, which meets nothing
+-- a row was entered, which reaches nothing
 abbrev pub RowEntered : Table → Table → ℕ → Whole → Type 0
 RowEntered b d i w = record {
   meets : TableMeets b d [];

@@ -1,4 +1,4 @@
--- Symbols that are the same have the same text; tests that are false, and faults that don't stand.
+-- Symbols that are the same have the same text; tests that are false, and faults that do not hold.
 use Rattle.std.proofs.Common.{◌≡◌, ℕ, List, [], ◌++◌, Bool, true, false, bytes_eq, refl, sym, ap, ◌∙◌, subst}
 use Rattle.std.specs.Prelude.{◌||◌}
 use Rattle.std.proofs.lemmas.Slice.Eq.{bytes_eq-Decides}
@@ -35,7 +35,7 @@ pub or_false : (a b : Bool) → (a || b) ≡ false → (a ≡ false) × (b ≡ f
 or_false true b e = absurd (cc e)
 or_false false b e = (refl, e)
 
--- a list of faults that begins with one that may stand
+-- a list of faults that begins with one that may hold
 pub none_if : (b : Bool) (f : Fault) (fs : List Fault) → fault_if b f ++ fs ≡ [] → (b ≡ false) × (fs ≡ [])
 none_if true f fs e = absurd (cc e)
 none_if false f fs e = (refl, e)

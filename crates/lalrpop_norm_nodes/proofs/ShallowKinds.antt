@@ -1,4 +1,4 @@
--- What a macro's arguments are bound to, with what is made into rules replaced in them: symbols and types with these substituted.
+-- What a macro's arguments are bound to, with what is desugared rewritten in them: symbols and types with these substituted.
 use Rattle.std.proofs.Common.{◌≡◌, ℕ, List, ◌∷◌, ◌++◌, Option, Some, None, option_map, codes, refl, ap, ap₂, ◌∙◌}
 use Rattle.lalrpop_norm_tree_names.specs.Texts.{joined}
 use Rattle.lalrpop_norm_tree.specs.Symbols.{Kind, Part, Parts, group, ambiguous_id, terminal, nonterminal, call, repeated, chosen, named, tupled, lookahead, lookbehind, error_terminal, at, no_parts, part_and}
@@ -10,7 +10,7 @@ use Rattle.lalrpop_norm_nodes.specs.Filled.{filled, filled_kind, all_filled}
 use Rattle.lalrpop_norm_nodes.proofs.TwiceLemmas.{kind_twice}
 use Rattle.lalrpop_norm_nodes.proofs.GivenLemmas.{kind_text_replaced}
 
--- ---- a macro's alternatives are copied with no argument bound, which makes an identifier a nonterminal, and filled then
+-- ---- a macro's alternatives are copied with no argument bound, which makes an identifier a nonterminal, and then substituted
 
 module _ (f : List ℕ → Option Kind) where
   mutual

@@ -1,5 +1,5 @@
--- What is met where arguments stand for numbers, or for symbols that are replaced, is what is met where they stand for symbols:
--- all that is inside an argument was met before.
+-- What is reached where arguments stand for ids, or for symbols that are rewritten, is what is reached where they stand for
+-- symbols: all that is inside an argument was reached before.
 use Rattle.std.proofs.Common.{◌≡◌, ℕ, List, [], ◌∷◌, ◌++◌, Bool, true, false, cond, map, Option, Some, None, option_map, bytes_eq, refl, sym, ap, ap₂, ◌∙◌, subst}
 use Rattle.std.specs.Prelude.{not, ◌||◌}
 use Rattle.std.proofs.lemmas.Bool.{and_parts, and_from}
@@ -35,7 +35,7 @@ pub closed_bare : (x y : Part) → unplaced x ≡ unplaced y → closed x ≡ cl
 closed_bare x y e = sym (part_closed 0 0 0 0 x) ∙ ap closed e ∙ part_closed 0 0 0 0 y
 
 mutual
-  -- the same is met, spans aside
+  -- the same is reached, up to spans
   pub met_bare : (s t : Span) (k : Kind) → map unplaced (met (at s (unplaced_kind k))) ≡ map unplaced (met (at t k))
   met_bare s t (group ps) =
       map-append unplaced (all_met (all_unplaced ps)) (at s (group (all_unplaced ps)) ∷ [])
@@ -69,7 +69,7 @@ mutual
       ∙ ap₂ (λ (xs ys : List Part). xs ++ ys) (part_met_bare p) (all_met_bare ps)
       ∙ sym (map-append unplaced (met p) (all_met ps))
 
--- wherever a symbol stands
+-- at any span of a symbol
 pub met_moved : (s t : Span) (k : Kind) → map unplaced (met (at s k)) ≡ map unplaced (met (at t k))
 met_moved s t k = sym (met_bare s s k) ∙ met_bare s t k
 
@@ -103,18 +103,19 @@ has_left t (u ∷ ts) us h = by (bytes_eq u t) (has_left t ts us) h
     by true deeper k = refl
     by false deeper k = deeper k
 
--- ---- lists that are met alike
+-- ---- lists that are reached alike
 
 module _ (names : List ℕ → Bool) (start : List Part) where
-  -- what was met then was met
+  -- what was reached then was reached
   abbrev pub Keeps : List Part → Type 0
   Keeps seen = (z : Part) → was_met names start z ≡ true → was_met names seen z ≡ true
 
   abbrev pub HaveTexts : List (List ℕ) → Type 0
   HaveTexts ts = (z : Part) → was_met names start z ≡ true → has_text (part_text z) ts ≡ true
 
-  -- Of symbols as they are met: what waits of them where arguments are replaced, the symbols in which arguments are as numbers say, and
-  -- the symbols themselves. The latter two are met and refused alike, and of the first there wait those that are met first of the last.
+  -- Of symbols as they are reached: what is on the worklist of them where arguments are rewritten, the symbols in which arguments
+  -- are as ids say, and the symbols themselves. The latter two are reached alike, with the same errors, and of the first those
+  -- are on the worklist that are reached first of the last.
   pub record MeetAlike (shown whole deep : List Part) : Type 0 where
     pub met : (seen : List Part) → Keeps seen → map unplaced (after seen whole) ≡ map unplaced (after seen deep)
     pub clashes : (seen : List Part) → Keeps seen → clash_faults names seen whole ≡ clash_faults names seen deep
@@ -130,7 +131,7 @@ module _ (names : List ℕ → Bool) (start : List Part) where
       let p = and_parts (was_met names start x) (were_met names start xs) h in
       ap (λ (b : Bool). cond b (fresh_after ts xs) (x ∷ fresh_after (ts ++ part_text x ∷ []) xs)) (k x p.0) ∙ none_fresh ts xs k p.1
 
-  -- what was met is as nothing
+  -- what was reached is as nothing
   pub alike_met : (whole deep : List Part) → were_met names start whole ≡ true → were_met names start deep ≡ true → MeetAlike [] whole deep
   alike_met whole deep h j = record {
     met = λ seen k. ap (map unplaced) ((quiet names seen whole (all_keep seen whole k h)).1 ∙ sym (quiet names seen deep (all_keep seen deep k j)).1);
@@ -242,7 +243,7 @@ module _ (names : List ℕ → Bool) (start : List Part) where
         (alike_met (met (at s (unplaced_kind k))) (met (at s k))
         (were_bare names start (met (at s k)) (met (at s (unplaced_kind k))) (sym (met_bare s s k)) (were n k e s)) (were n k e s))
 
-    -- what waits of what is inside, and of the symbol
+    -- what is on the worklist of what is inside, and of the symbol
     joined_alike : (us vs ws : List Part) (x y z : Part) → MeetAlike (map parts_replaced us) vs ws → parts_replaced x ≡ parts_replaced z → unplaced y ≡ unplaced z →
         span_of y ≡ span_of z → MeetAlike (map parts_replaced (us ++ x ∷ [])) (vs ++ y ∷ []) (ws ++ z ∷ [])
     joined_alike us vs ws x y z h shown same spans =

@@ -1,4 +1,4 @@
--- The rules of symbols with their parts replaced, read where names stand for what is given, are the rules of the symbols.
+-- The rules of symbols with their parts rewritten, read in an environment, are the rules of the symbols.
 use Rattle.std.proofs.Common.{◌≡◌, ℕ, List, [], ◌∷◌, Bool, true, false, cond, map, Option, Some, None, option_map, bytes_eq, refl, sym, ap, ap₂, ◌∙◌, subst, append-nil}
 use Rattle.std.specs.List.{flat_map}
 use Rattle.lalrpop_norm_tree_names.specs.declared.names.NonterminalString.{NonterminalString}
@@ -26,7 +26,7 @@ use Rattle.lalrpop_norm_nodes.proofs.ShallowRules.{repeat_bound, repeat_unbound,
 abbrev pub copied : Span → List AlternativeData → List AlternativeData
 copied s xs = map (instance_alternative s (λ n. None)) xs
 
--- what is met in them where names stand for these, what waits of it, and what they are once they are read
+-- what is reached in them where names stand for these, what is on the worklist of it, and what they are once they are read
 abbrev pub met_in_each : (List ℕ → Option Kind) → List AlternativeData → List Part
 met_in_each f xs = flat_map (λ (a : AlternativeData). all_met (all_filled f a.parts)) xs
 
@@ -45,7 +45,7 @@ module _ (arg shown : List ℕ → Option Kind) (shown_is : (n : List ℕ) → s
       (ap all_replaced (all_filled_later shown a.parts) ∙ all_replaced_so arg shown shown_is a.parts) (copies_read xs)
 
 module _ (names : List ℕ → Bool) (start : List Part) where
-  -- wherever a symbol stands that an argument is bound to, what it meets was met
+  -- at any span of a symbol that an argument is bound to, what it reaches was reached
   bound_were_met : (params : List NonterminalString) (ps : Parts) (n : List ℕ) (k : Kind) → were_met names start (all_met ps) ≡ true →
       argument_kind params ps n ≡ Some k → (s : Span) → were_met names start (met (at s k)) ≡ true
   bound_were_met [] ps n k h e s = absurd (cc e)
@@ -133,7 +133,7 @@ module _ (names : List ℕ → Bool) (start : List Part) where
           (flat_map (λ (a : AlternativeData). all_met a.parts) (map (instance_alternative s (argument_kind (n ∷ []) (only_part (at sp k)))) here)))
           (repeat_unbound s op sp n.0) alike)
 
-  -- ---- a group and a lookaround, whose rules are finished
+  -- ---- a group and a location symbol, whose rules are finished
 
   pub group_alike : (s : Span) (ps : Parts) → were_met names start (all_met ps) ≡ true → MeetAlike names start [] [] (met_in_rule (group_rule s ps))
   group_alike s ps were =

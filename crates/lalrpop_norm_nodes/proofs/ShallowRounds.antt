@@ -1,5 +1,5 @@
--- A round over numbers and replaced symbols is the round over the symbols: the same is refused, the same is seen, spans aside, and what
--- is new waits with its parts replaced.
+-- A round over ids and rewritten symbols is the round over the symbols: the errors are the same, the same is seen, up to spans,
+-- and what is new is on the worklist with its parts rewritten.
 use Rattle.std.proofs.Common.{◌≡◌, inl, inr, ℕ, List, [], ◌∷◌, ◌++◌, Bool, true, false, cond, map, Option, Some, None, option_map, is_some, refl, sym, ap, ap₂, ◌∙◌, subst}
 use Rattle.std.specs.Prelude.{not, ◌||◌, ◌&&◌}
 use Rattle.std.specs.List.{flat_map}
@@ -51,7 +51,7 @@ module _ (names : List ℕ → Bool) (seen start shown whole deep : List Part) (
       ∙ alike.waits (map part_text start) (seen_has_text names start)
       ∙ ap (map parts_replaced) (sym (first_fresh start deep))
 
--- ---- where all of these were met, so was what each meets
+-- ---- where all of these were reached, so was what each reaches
 
 module _ (names : List ℕ → Bool) (seen : List Part) where
   abbrev pub IsInward : List Part → Type 0
@@ -99,7 +99,7 @@ module _ (names : List ℕ → Bool) (seen : List Part) where
   pub rule_inward : (r : RuleData) → IsInward (met_in_rule r)
   rule_inward r = inward_each (λ (a : AlternativeData). all_met a.parts) r.alternatives (λ a. all_inward a.parts)
 
--- ---- the number of a symbol that waits
+-- ---- the number of a symbol on the worklist
 
 first_after : (t : List ℕ) (seen xs : List Part) (y : Part) → first_with_text t seen ≡ Some y → first_with_text t (after seen xs) ≡ Some y
 first_after t seen [] y e = e
@@ -131,11 +131,11 @@ first_of_fresh seen (x ∷ xs) p i =
     by (Some y) e true f j stays adds = stays j
     by (Some y) e false f j stays adds = absurd (cc (e, f))
 
--- one that is met first is the first of its text
+-- one that is reached first is the first of its text
 pub first_of_text : (seen xs : List Part) (p : Part) → In p (first_met seen xs) → first_with_text (part_text p) (after seen xs) ≡ Some p
 first_of_text seen xs p i = first_of_fresh seen xs p (subst (λ (ps : List Part). In p ps) (first_fresh seen xs) i)
 
--- what has the text of a symbol that was seen, and was met, is that symbol, spans aside
+-- what has the text of a symbol that was seen, and was reached, is that symbol, up to spans
 pub text_tells : (names : List ℕ → Bool) (seen start : List Part) (k : Kind) (p : Part) → map unplaced seen ≡ map unplaced start → unplaced_kind k ≡ k →
     was_met names seen (at nowhere k) ≡ true → kind_text k ≡ part_text p → first_with_text (part_text p) start ≡ Some p → at nowhere k ≡ unplaced p
 text_tells names seen start k p same bare h text first = by (first_with_text (kind_text k) seen) refl h

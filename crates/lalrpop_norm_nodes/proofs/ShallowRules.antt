@@ -1,4 +1,4 @@
--- The rules that symbols are made into, from these with their parts replaced.
+-- The rules that symbols are desugared to, from these with their parts rewritten.
 use Rattle.std.proofs.Common.{◌≡◌, ℕ, zero, suc, List, [], ◌∷◌, Bool, true, false, cond, map, Option, Some, None, option_map, bytes_eq, codes, refl, sym, ap, ap₂, ◌∙◌}
 use Rattle.lalrpop_norm_tree_names.specs.declared.names.NonterminalString.{NonterminalString}
 use Rattle.lalrpop_norm_tree_names.specs.declared.names.Span.{Span}
@@ -127,11 +127,11 @@ module _ (value : ConditionValue) (s : Span) (d : RuleData) (ps : Parts) where
       by true h = ap (λ (xs : List AlternativeData). instance_alternative s (argument_kind d.args ps) a ∷ xs) h
       by false h = h
 
-  -- the alternatives that are kept by the arguments replaced, with the arguments substituted
+  -- the alternatives that are kept by the arguments rewritten, with the arguments substituted
   pub instance_kept : (instance_rule value s d ps).alternatives ≡ map (instance_alternative s (argument_kind d.args ps)) (kept_in value d.args (all_replaced ps) d.alternatives)
   instance_kept = kept_each d.alternatives ∙ ap (map (instance_alternative s (argument_kind d.args ps))) (sym (kept_replaced value d.args ps d.alternatives))
 
-  -- the declared type is that with the arguments replaced
+  -- the declared type is that with the arguments rewritten
   pub instance_type_replaced : option_map (type_substituted (argument_kind d.args (all_replaced ps))) d.type_decl ≡ option_map (type_substituted (argument_kind d.args ps)) d.type_decl
   instance_type_replaced = by d.type_decl
     where
@@ -139,7 +139,7 @@ module _ (value : ConditionValue) (s : Span) (d : RuleData) (ps : Parts) where
       by None = refl
       by (Some t) = ap Some (type_so (argument_kind d.args ps) (argument_kind d.args (all_replaced ps)) (argument_replaced d.args ps) t)
 
-  -- all else of the rule is as of the arguments replaced
+  -- all else of the rule is as of the arguments rewritten
   pub instance_replaced : (let shallow : RuleData = instance_rule value s d (all_replaced ps) in
       let deep : RuleData = instance_rule value s d ps in
       deep ≡ record shallow { alternatives = deep.alternatives })

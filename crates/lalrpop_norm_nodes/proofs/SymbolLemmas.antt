@@ -13,7 +13,7 @@ use Rattle.lalrpop_norm_model.specs.PlainRules.{met, all_met}
 use Rattle.lalrpop_norm_nodes.specs.Meeting.{met_inside, own, met_itself}
 use Rattle.lalrpop_norm_nodes.proofs.MeetingLemmas.{refuses_same}
 
--- a symbol meets what is inside it, then itself
+-- a symbol reaches what is inside it, then itself
 pub met_is : (s : Symbol) → met (symbol_view s) ≡ met_inside (kind_view s.kind) ++ met_itself (symbol_view s)
 met_is s = rw (seen_at s) (by s.span (kind_view s.kind))
   where

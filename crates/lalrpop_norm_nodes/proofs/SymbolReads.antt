@@ -1,4 +1,4 @@
--- What is told of a symbol that was read: what it met, what stands in its place, and its number.
+-- What is known of a symbol that was read: what it reached, what it was rewritten to, and its id.
 use Rattle.std.proofs.Common.{◌≡◌, ℕ, List, Result, Ok, Err, Option, Some, slice_get, ap, ◌∙◌, subst}
 use Rattle.std.specs.Result.{IfOk, OnOk, IsErrAnd}
 use Rattle.lalrpop_norm_faults.specs.declared.failure.NormFailure.{NormFailure}
@@ -23,7 +23,7 @@ use Rattle.lalrpop_norm_nodes.proofs.MeetingLemmas.{clash_both, err_refuses}
 use Rattle.lalrpop_norm_nodes.proofs.ReadLemmas.{bound_met, bound_value, bound_number, read_at}
 use Rattle.lalrpop_norm_nodes.proofs.WaitReads.{bound_waits}
 
--- these were met, and these are where they wait
+-- these were reached, and these are on the worklist for them
 abbrev pub NumberRead : Result ℕ NormFailure → Table → Table → List Part → List Part → Type 0 → (ℕ → Type 0) → Type 0
 NumberRead r a b xs ys Now Is = record {
   refuses : Refuses r (refused_in a xs);
@@ -34,7 +34,7 @@ NumberRead r a b xs ys Now Is = record {
   number : IfOk r Is;
 }
 
--- an error is handed on
+-- an error is passed on
 pub refused_number : (r : Result ℕ NormFailure) (a b : Table) (xs ys : List Part) (Now : Type 0) (Is : ℕ → Type 0) (f : NormFailure) → IsErrAnd r (λ g. g ≡ f) → Refuses r (refused_in a xs) →
     NumberRead r a b xs ys Now Is
 refused_number (Ok n) a b xs ys Now Is f from h = absurd from
@@ -52,7 +52,7 @@ pub refused_symbol : (r : Result ℕ NormFailure) (a b : Table) (e : Environment
     IsFirst (refused_in a (met (read_whole (wholes_in a) e (symbol_view s)))) f → SymbolRead r a b e t now
 refused_symbol r a b e s t now f from is h = symbol_as r a b e s t now is (refused_number r a b _ _ _ _ f from (err_refuses r f _ from h))
 
--- what is inside it is refused
+-- what is inside it is an error
 pub refused_inside : (r : Result ℕ NormFailure) (a b : Table) (e : Environment) (s : Symbol) (now : Part) (f : NormFailure) → IsErrAnd r (λ g. g ≡ f) →
     IsFirst (refused_in a (met_inside (kind_whole (wholes_in a) e (kind_view s.kind)))) f → SymbolRead r a b e s now
 refused_inside r a b e s now f from h =

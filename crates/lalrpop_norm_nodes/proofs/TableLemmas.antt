@@ -46,7 +46,7 @@ noted_more true i g (Some y) h = refl
 noted_more false i g None h = h
 noted_more false i g (Some y) h = h
 
--- a symbol that waits keeps its number
+-- a symbol on the worklist keeps its id
 numbered_stays : (ws vs : List Whole) (w : Waiting) → Grows ws vs → IsNumbered ws w → IsNumbered vs w
 numbered_stays ws vs w (more, e) h = by (slice_get ws w.number) refl h
   where
@@ -105,7 +105,7 @@ module _ (a b : Table) (n : Node) (h : IsNodeTable a) (fit : Fits (wholes_in a) 
           ∙ ap (were_met (is_declared_in a) (seen_in a)) (met_split added ∙ ap (λ (xs : List Part). inner_of added ++ xs) (none_made added plain) ∙ append-nil (inner_of added))
           ∙ inner_met (is_declared_in a) (wholes_in a) (seen_in a) h.met n fit
 
-  -- made into a rule of that text
+  -- desugared of that text
   pub made_table : b.waiting ≡ a.waiting → (t : List ℕ) (i : ℕ) → own_text_in added ≡ Some t → texts_of b.nodes ≡ texts_of a.nodes ++ Some t ∷ [] →
       first_with_text t (seen_in a) ≡ None → is_declared_in a t ≡ false →
       ((x : List ℕ) → text_noted b x ≡ cond (bytes_eq t x) (Some i) (text_noted a x)) → IsNodeTable b
@@ -146,7 +146,7 @@ module _ (a b : Table) (n : Node) (h : IsNodeTable a) (fit : Fits (wholes_in a) 
           (all_stay (is_declared_in a) (seen_in a) (x ∷ []) (inner_of added) (inner_met (is_declared_in a) (wholes_in a) (seen_in a) h.met n fit))
           (and_from _ _ here refl)
 
--- ---- a node that is made into no rule
+-- ---- a node that is not desugared
 
 pub entered_meets : (a b : Table) (n : Node) → IsNodeTable a → Fits (wholes_in a) n → own_text_in (built (wholes_in a) n) ≡ None → AreNodes b.nodes → b.names ≡ a.names →
     b.waiting ≡ a.waiting → b.places ≡ a.places → EntersPlain a.nodes b.nodes (built (wholes_in a) n) → TableMeets a b []
@@ -168,7 +168,7 @@ entered_meets a b n h fit plain nodes names waiting places (stood ws texts) = re
     stands : (i : ℕ) (v : Whole) → StandsFor (wholes_in b) i v → StandsFor (wholes_in a) i v
     stands i v e = subst (λ vs. StandsFor vs i v) ws e
 
--- ---- a symbol that waits
+-- ---- a symbol on the worklist
 
 pub waiting_more : (a : Table) (v : Vec Waiting Global) (w : Waiting) → IsNodeTable a → v.items ≡ a.waiting.items ++ w ∷ [] → IsNumbered (wholes_in a) w →
     let b : Table = record { names = a.names; nodes = a.nodes; places = a.places; made = a.made; waiting = v; no_symbols = a.no_symbols } in IsNodeTable b

@@ -1,4 +1,4 @@
--- Symbols that are replaced meet nothing, and are not replaced again.
+-- Symbols that are rewritten reach nothing, and are not rewritten again.
 use Rattle.std.proofs.Common.{◌≡◌, [], ◌++◌, refl, ap, ap₂, ◌∙◌}
 use Rattle.lalrpop_norm_tree.specs.Symbols.{Kind, Part, Parts, group, ambiguous_id, terminal, nonterminal, call, repeated, chosen, named, tupled, lookahead, lookbehind, error_terminal, at, no_parts, part_and}
 use Rattle.lalrpop_norm_model.specs.PlainRules.{met, all_met}

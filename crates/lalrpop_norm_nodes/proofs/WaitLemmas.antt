@@ -1,4 +1,4 @@
--- Symbols that wait, met in two parts.
+-- Symbols on the worklist, reached in two parts.
 use Rattle.std.proofs.Common.{◌≡◌, ℕ, List, [], ◌∷◌, ◌++◌, map, length, drop, Option, Some, None, refl, sym, ap, ap₂, ◌∙◌, subst, append-nil, append_assoc, Vec, Global}
 use Rattle.std.proofs.Math.Seq.{drop-append_seam, drop-length}
 use Rattle.std.proofs.lemmas.List.{map-append, length-map, drop_at, append_cancel_left}
@@ -55,7 +55,7 @@ bare_texts : (seen : List Part) → map part_text seen ≡ map part_text (map un
 bare_texts [] = refl
 bare_texts (p ∷ seen) = ap₂ (λ (t : List ℕ) (ts : List (List ℕ)). t ∷ ts) (sym (text_unplaced p)) (bare_texts seen)
 
--- where a node is entered that is made into no rule, none is added
+-- where a node is entered that is not desugared, none is added
 pub waits_plain : (a b : Table) → IsNodeTable a → TableMeets a b [] → b.waiting ≡ a.waiting → LeavesWaiting a b []
 waits_plain a b table h same = record {
   waiting = ap (λ (ws : Vec Waiting Global). map (λ (w : Waiting). symbol_view w.symbol) ws.items) same ∙ (waits_nothing a).waiting;
@@ -71,7 +71,7 @@ pub waits_row : (a b c : Table) (xs : List Part) → LeavesWaiting a b xs → Is
 waits_row a b c xs h table k same =
     subst (λ (ys : List Part). LeavesWaiting a c ys) (append-nil xs) (waits_both a b c xs [] h (waits_plain b c table k same))
 
--- ---- a symbol that is made into a rule
+-- ---- a symbol that is desugared
 
 -- one of its text was seen
 pub waits_seen : (t : Table) (x y : Part) → first_with_text (part_text x) (seen_in t) ≡ Some y → LeavesWaiting t t (x ∷ [])
@@ -104,7 +104,7 @@ waits_new a b x y e waiting seen numbers text = record {
     added : after (seen_in a) (x ∷ []) ≡ seen_in a ++ x ∷ []
     added = ap (λ (o : Option Part). joined_by o (seen_in a) x) e
 
--- ---- the numbers stand for what was met first
+-- ---- the numbers stand for what was reached first
 
 pub waiting_numbers : (a b : Table) (xs ys : List Part) → TableMeets a b xs → LeavesWaiting a b ys →
     numbered_in b ≡ numbered_in a ++ map unplaced (first_met (seen_in a) xs)

@@ -1,4 +1,4 @@
--- What waits where a symbol is read.
+-- What is added to the worklist where a symbol is read.
 use Rattle.std.proofs.Common.{◌≡◌, ℕ, ◌+◌, ◌<◌, length, take, get_or, List, [], ◌∷◌, ◌++◌, true, false, map, Option, Some, None, is_some, Bool, true≢false, refl, sym, ap, ◌∙◌, subst}
 use Rattle.std.specs.List.{flat_map}
 use Rattle.std.proofs.lemmas.List.{map-append}
@@ -25,7 +25,7 @@ use Rattle.lalrpop_norm_nodes.proofs.ReadLemmas.{bound_is}
 use Rattle.lalrpop_norm_nodes.proofs.TwiceLemmas.{nothing_met}
 use Rattle.lalrpop_norm_nodes.proofs.WaitLemmas.{waits_both, waits_nothing, waits_plain}
 
--- what is given for a name was met
+-- what a name is bound to was reached
 pub bound_waits : (t : Table) (e : Environment) (s : Symbol) (g : Given) → AreGiven (wholes_in t) e → given_to e (kind_view s.kind) ≡ Some g →
     LeavesWaiting t t (shown_met e (symbol_view s))
 bound_waits t e s g given f =
@@ -50,7 +50,7 @@ own_parts s lookahead = refl
 own_parts s lookbehind = refl
 own_parts s error_terminal = refl
 
--- a symbol that is read waits behind what is inside it
+-- a symbol that is read is on the worklist behind what is inside it
 pub read_waits : (a b d : Table) (e : Environment) (s : Symbol) → LeavesWaiting a b (map parts_replaced (met_inside (filled_kind (shown_for e) (kind_view s.kind)))) →
     LeavesWaiting b d (own s.span (kind_shown e (kind_view s.kind))) → LeavesWaiting a d (shown_met e (symbol_view s))
 read_waits a b d e s h g =
@@ -62,7 +62,7 @@ read_waits a b d e s h g =
     ∙ ap (λ (xs : List Part). map parts_replaced (met_inside k) ++ xs) (own_parts s.span k) in
     subst (λ (xs : List Part). LeavesWaiting a d xs) (sym split) (waits_both a b d _ _ h g)
 
--- one that is made into no rule does not
+-- one that is not desugared does not
 pub kept_waits : (a b : Table) (s : Symbol) → is_some (own_text (at nowhere (kind_view s.kind))) ≡ false → IsNodeTable a → TableMeets a b [] → b.waiting ≡ a.waiting →
     LeavesWaiting a b (met_itself (symbol_view s))
 kept_waits a b s none table h same =
@@ -100,7 +100,7 @@ made_waits_itself a b p some h = subst (λ (xs : List Part). LeavesWaiting a b x
     itself (at s (nonterminal n)) f = absurd (cc f)
     itself (at s error_terminal) f = absurd (cc f)
 
--- a symbol with the nonterminal of its text in its place
+-- a symbol rewritten to the nonterminal of its text
 pub made_topped : (s : Symbol) → is_some (own_text (symbol_view s)) ≡ true → at s.span (nonterminal (part_text (symbol_view s))) ≡ topped (symbol_view s)
 made_topped s some =
     ap (λ (p : Part). at s.span (nonterminal (part_text p))) (seen_at s)
@@ -149,7 +149,7 @@ pub partly_waits : {D : Type 0} (m : D → List Part) (vs : List D) (i : ℕ) (w
     LeavesWaiting a b (flat_map m (take i vs)) → LeavesWaiting b c (m w) → LeavesWaiting a c (flat_map m (take (i + 1) vs))
 partly_waits m vs i w l e a b c h k = rw (met_more m vs i w l e) (waits_both a b c _ _ h k)
 
--- ---- whether a symbol is made into a rule, told of its kind
+-- ---- whether a symbol is desugared, by its kind
 
 own_placed : (s : Span) (k : Kind) → own_text (at s k) ≡ own_text (at nowhere k)
 own_placed s (group ps) = refl
@@ -172,7 +172,7 @@ pub no_text : (o p : Option (List ℕ)) → o ≡ p → is_some p ≡ false → 
 no_text o None e f = e
 no_text o (Some x) e f = absurd (true≢false f)
 
--- what is made into no rule stands for nothing that is met
+-- what is not desugared stands for nothing that is reached
 pub own_none : (s : Span) (w : Whole) → own_text_in w ≡ None → own_at s w ≡ []
 own_none s (symbols ps) e = refl
 own_none s (one_pattern p) e = refl

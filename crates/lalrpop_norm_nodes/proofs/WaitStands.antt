@@ -1,4 +1,4 @@
--- The numbers of the symbols that wait stand for these.
+-- The ids of the symbols on the worklist stand for these.
 use Rattle.std.proofs.Common.{◌≡◌, inl, inr, ℕ, suc, List, [], ◌∷◌, ◌++◌, true, map, Option, Some, None, slice_get, option_and_then, refl, sym, ap, ap₂, ◌∙◌}
 use Rattle.std.proofs.lemmas.Bool.{and_parts}
 use Rattle.lalrpop_norm_tree.specs.Symbols.{Kind, Part, Parts, group, ambiguous_id, terminal, nonterminal, call, repeated, chosen, named, tupled, lookahead, lookbehind, error_terminal, at, no_parts, part_and, kind_view, symbol_view}
@@ -81,10 +81,10 @@ kind_of_parts (at s k) = refl
 unplaced_is : (p : Part) → unplaced p ≡ at nowhere (unplaced_kind (kind_of p))
 unplaced_is (at s k) = refl
 
--- ---- a symbol that waits
+-- ---- a symbol on the worklist
 
 module _ (t : Table) (h : IsNodeTable t) (start : List Part) (same : map unplaced (seen_in t) ≡ map unplaced start) where
-  -- what has a number was met
+  -- what has a number was reached
   stands_was_met : (i : ℕ) (w : Whole) (x : List ℕ) → StandsFor (wholes_in t) i w → (m : Made w x) → was_met (is_declared_in t) (seen_in t) (at nowhere m.kind) ≡ true
   stands_was_met i w x e m =
       let all : were_met (is_declared_in t) (seen_in t) (inner_of w ++ own_in w) ≡ true =

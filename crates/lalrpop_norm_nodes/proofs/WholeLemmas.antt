@@ -1,4 +1,4 @@
--- What the whole of a node meets, its spans, and its text.
+-- What the whole of a node reaches, its spans, and its text.
 use Rattle.std.proofs.Common.{◌≡◌, ℕ, suc, Bool, true, false, cond, List, [], ◌∷◌, ◌++◌, map, Some, None, bytes_eq, refl, sym, ap, ap₂, ◌∙◌, subst, append-nil, append_assoc}
 use Rattle.std.specs.List.{flat_map}
 use Rattle.std.proofs.lemmas.Grind.{flat_map-append}
@@ -22,7 +22,7 @@ use Rattle.lalrpop_norm_nodes.specs.Wholes.{Whole, one_symbol, symbols, one_patt
 use Rattle.lalrpop_norm_nodes.specs.Tables.{own_at, own_in, own_text_in, met_of, inner_of, IsBare}
 use Rattle.lalrpop_norm_nodes.proofs.MeetLemmas.{split_at}
 
--- ---- what a symbol meets
+-- ---- what a symbol reaches
 
 pub all_met_more : (ps : List Part) (p : Part) → all_met (parts_of (ps ++ p ∷ [])) ≡ all_met (parts_of ps) ++ met p
 all_met_more [] p = append-nil (met p)
@@ -36,7 +36,7 @@ met_split (patterns ps) = refl
 
 module _ (names : List ℕ → Bool) (ws : List Whole) (seen : List Part)
     (all : (i : ℕ) (w : Whole) → StandsFor ws i w → were_met names seen (met_of w) ≡ true) where
-  -- the parts of a node that fits were met
+  -- the parts of a node that fits were reached
   pub inner_met : (n : Node) → Fits ws n → were_met names seen (inner_of (built ws n)) ≡ true
   inner_met (node.Leaf leaf.NoSymbols) h = refl
   inner_met (node.Leaf leaf.NoPatterns) h = refl
@@ -127,7 +127,7 @@ none_made (one_symbol k) e = by k e
     by (nonterminal n) f = refl
     by error_terminal f = refl
 
--- a whole that is made into a rule: its symbol, and its text
+-- a whole that is desugared: its symbol, and its text
 pub record Made (w : Whole) (t : List ℕ) : Type 0 where
   pub kind : Kind
   pub is : w ≡ one_symbol kind

@@ -1,4 +1,4 @@
--- What decides the hashes of a table: the names of a grammar's rules, and the symbols of their alternatives, spans aside.
+-- What decides the hashes of a table: the names of a grammar's rules, and the symbols of their alternatives, up to spans.
 use Rattle.std.specs.Prelude.{List, [], ◌++◌, flat_map}
 use Rattle.std.specs.Hash.{HashWrites, u8, u16, bool, str}
 use Rattle.std.specs.Hash.DefaultHasher.{initial}

@@ -1,4 +1,4 @@
--- What the arguments of a macro are bound to, by numbers.
+-- The environment of a macro: what its arguments are bound to, by ids.
 use Rattle.std.specs.Prelude.{◌≡◌, ℕ, List, Option, Some, None, option_map, option_and_then, slice_get}
 use Rattle.lalrpop_norm_names.specs.Numbers.{number_in_table}
 use Rattle.lalrpop_norm_tree.specs.Symbols.{Kind, Part, nonterminal, kind_view}
@@ -9,18 +9,18 @@ use Rattle.lalrpop_norm_nodes.specs.declared.given.Given.{Given}
 use Rattle.lalrpop_norm_nodes.specs.declared.given.Environment.{Environment}
 use Rattle.lalrpop_norm_nodes.specs.Wholes.{Whole, kind_at, IsKind}
 
--- what is given for the argument of a name
+-- what the argument of a name is bound to
 abbrev pub given_in : Environment → List ℕ → Option Given
 given_in e n = option_and_then (λ i. slice_get e.given.now i) (number_in_table e.numbers.now n)
 
--- what a name is bound to, spans aside, and what stands in its place
+-- what a name is bound to, up to spans (the interned term), and the rewritten symbol that is substituted for it
 abbrev pub whole_for : List Whole → Environment → List ℕ → Option Kind
 whole_for ws e n = option_map (λ g. kind_at ws g.number) (given_in e n)
 
 abbrev pub shown_for : Environment → List ℕ → Option Kind
 shown_for e n = option_map (λ g. kind_view g.symbol.kind) (given_in e n)
 
--- a number that stands for a symbol, and that symbol with what is made into rules replaced
+-- an id that stands for a symbol, and that symbol rewritten
 pub record IsGiven (ws : List Whole) (g : Given) : Type 0 where
   pub stands : IsKind ws g.number
   pub replaced : replaced_kind (kind_view g.symbol.kind) ≡ kind_view g.symbol.kind
@@ -29,13 +29,12 @@ pub record IsGiven (ws : List Whole) (g : Given) : Type 0 where
 abbrev pub AreGiven : List Whole → Environment → Type 0
 AreGiven ws e = (n : List ℕ) (g : Given) → given_in e n ≡ Some g → IsGiven ws g
 
--- what is given for a symbol that is an argument's name
+-- what a symbol is bound to that is an argument's name
 abbrev pub given_to : Environment → Kind → Option Given
 given_to e (nonterminal n) = given_in e n
 given_to e _ = None
 
--- a symbol read where names stand for what is given: as it is, spans inside what is given aside; and with what is made into rules
--- replaced
+-- a symbol read in an environment: substituted, up to spans inside of what is substituted; and rewritten
 abbrev pub read_whole : List Whole → Environment → Part → Part
 read_whole ws e p = filled (whole_for ws e) p
 

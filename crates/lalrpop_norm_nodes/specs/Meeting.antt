@@ -1,4 +1,4 @@
--- How the code meets symbols, one after another: its own words, of which no public clause speaks.
+-- How the code reaches symbols, one after another: internal definitions, which no public contract clause mentions.
 use Rattle.std.specs.Prelude.{◌≡◌, ◌<◌, ℕ, Bool, true, false, not, ◌||◌, ◌&&◌, List, [], ◌∷◌, ◌++◌}
 use Rattle.std.specs.Prelude.{map, length, Option, Some, None, is_some, option_and_then, slice_get, bytes_eq, if◌then◌else◌}
 use Rattle.std.specs.HashSet.{HashSet, contains}
@@ -12,9 +12,9 @@ use Rattle.lalrpop_norm_faults.specs.Faults.{Fault, fault_if}
 use Rattle.lalrpop_norm_model.specs.PlainRules.{same_apart_from_spans, met, all_met}
 use Rattle.lalrpop_norm_model.specs.MadeRules.{span_of}
 
--- ---- what a symbol meets
+-- ---- what a symbol reaches
 
--- what is inside it meets
+-- what is inside it reaches
 abbrev pub met_inside : Kind → List Part
 met_inside (group ps) = all_met ps
 met_inside (call n ps) = all_met ps
@@ -29,7 +29,7 @@ met_inside lookahead = []
 met_inside lookbehind = []
 met_inside error_terminal = []
 
--- the symbol itself, if it is made into a rule
+-- the symbol itself, if it is desugared
 abbrev pub own : Span → Kind → List Part
 own s (group ps) = at s (group ps) ∷ []
 own s (call n ps) = at s (call n ps) ∷ []
@@ -50,7 +50,7 @@ met_itself (at s k) = own s k
 abbrev pub inside : Part → List Part
 inside (at s k) = met_inside k
 
--- the text of a symbol that is made into a rule
+-- the text of a symbol that is desugared
 abbrev pub own_text : Part → Option (List ℕ)
 own_text (at s (group ps)) = Some (part_text (at s (group ps)))
 own_text (at s (call n ps)) = Some (part_text (at s (call n ps)))
@@ -65,7 +65,7 @@ own_text (at s (named n p)) = None
 own_text (at s (tupled ns p)) = None
 own_text (at s error_terminal) = None
 
--- ---- symbols met one after another
+-- ---- symbols reached one after another
 
 -- the first symbol of that text
 abbrev pub first_with_text : List ℕ → List Part → Option Part
@@ -76,7 +76,7 @@ abbrev pub joined_by : Option Part → List Part → Part → List Part
 joined_by None seen x = seen ++ x ∷ []
 joined_by (Some y) seen x = seen
 
--- the symbols met, once one more is met: the first of each text stays
+-- the reached symbols, once one more is reached: the first of each text stays
 abbrev pub after_one : List Part → Part → List Part
 after_one seen x = joined_by (first_with_text (part_text x) seen) seen x
 
@@ -97,7 +97,7 @@ clash_faults names seen [] = []
 clash_faults names seen (x ∷ xs) =
     fault_if (clashes names seen x) (SharedName, span_of x) ++ clash_faults names (after_one seen x) xs
 
--- a symbol of its text was met that is the same, and its text is no name
+-- a symbol of its text was reached that is the same, and its text is no name
 abbrev pub was_met : (List ℕ → Bool) → List Part → Part → Bool
 was_met names seen x = is_some (first_with_text (part_text x) seen) && not (clashes names seen x)
 

@@ -28,14 +28,15 @@ GivenStay =
     (ws vs : List Whole) (e : Environment) → Grows ws vs → AreGiven ws e →
     AreGiven vs e × (whole_for vs e ≡ whole_for ws e) × ((k : Kind) → kind_text (kind_shown e k) ≡ kind_text (kind_whole ws e k))
 
--- a symbol that is read meets what is inside it, and then what its node is made into; and so it is refused
+-- a symbol that is read reaches what is inside it, and then what its node is desugared to; its errors are found in that order
 abbrev pub ReadsInTwo : Type 0
 ReadsInTwo =
     (a b d : Table) (s : Span) (k : Kind) → TableMeets a b (met_inside k) → refused_in a (met_inside k) ≡ [] →
     TableMeets b d (own_at s (one_symbol (unplaced_kind k))) →
     TableMeets a d (met (at s k)) × (refused_in a (met (at s k)) ≡ refused_in b (own_at s (one_symbol (unplaced_kind k))))
 
--- where symbols are met, and left waiting as they are shown, the numbers of those that wait stand for the first of each text
+-- where symbols are reached, and put on the worklist as they are rewritten (`shown`), the ids on the worklist stand for the first
+-- of each text
 abbrev pub NumbersOfWaiting : Type 0
 NumbersOfWaiting =
     (a b : Table) (xs ys : List Part) → TableMeets a b xs → LeavesWaiting a b ys →

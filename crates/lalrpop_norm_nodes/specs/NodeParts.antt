@@ -1,4 +1,4 @@
--- What a symbol that is made into a rule is made of, as its node has it.
+-- The parts of a symbol that is desugared, as its node has them.
 use Rattle.std.specs.Prelude.{◌≡◌, ⊤, ℕ, Bool, true, false, List, [], ◌∷◌, ◌++◌, Option, Some, None}
 use Rattle.lalrpop_norm_tree.specs.Symbols.{Kind, Part, Parts, call, repeated, error_terminal, no_parts}
 use Rattle.lalrpop_norm_nodes.specs.declared.node.Node.{Node}
@@ -32,7 +32,7 @@ abbrev pub repeated_kind : Kind → Kind
 repeated_kind (repeated op p) = kind_of p
 repeated_kind _ = error_terminal
 
--- the numbers that a node has for them, and those of a row that is not empty: of what stands before the last, and of the last
+-- the ids that a node has for them, and those of a row that is not empty: of what is before the last, and of the last
 abbrev pub row_of_call : Node → ℕ
 row_of_call (node.NamedUnary named_unary.Call a l) = l
 row_of_call _ = 0
@@ -48,18 +48,18 @@ abbrev pub last_in_row : Node → Option (ℕ × ℕ)
 last_in_row (node.Binary binary.Symbols l n) = Some (l, n)
 last_in_row _ = None
 
--- a row ends so
+-- how a row ends
 abbrev pub EndsRow : List Whole → List Part → Option (ℕ × ℕ) → Type 0
 EndsRow ws ps None = ps ≡ []
 EndsRow ws ps (Some (l, n)) = AreSymbols ws l × IsKind ws n × (ps ≡ symbols_at ws l ++ part_at ws n ∷ [])
 
--- The number stands for what the symbol is once its parts are replaced, spans aside, and they are.
+-- The id stands for the symbol with its parts rewritten, up to spans, and they are rewritten.
 pub record IsShallow (ws : List Whole) (n : ℕ) (k : Kind) : Type 0 where
   pub stands : IsKind ws n
   pub same : unplaced_kind k ≡ unplaced_kind (inside_replaced (kind_at ws n))
   pub replaced : inside_replaced k ≡ k
 
--- a symbol that waits, with the number of what it is
+-- a symbol on the worklist, with its id
 abbrev pub IsWaiting : List Whole → Waiting → Type 0
 IsWaiting ws w = IsNumbered ws w × IsShallow ws w.number (kind_view w.symbol.kind)
 

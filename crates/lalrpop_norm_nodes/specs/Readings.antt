@@ -1,4 +1,4 @@
--- What reading a symbol gives: its node, and what is put in its place.
+-- What reading a symbol gives: its node, and the rewritten symbol.
 use Rattle.std.specs.Prelude.{◌≡◌, ℕ, List, map, if◌then◌else◌}
 use Rattle.lalrpop_norm_tree.specs.declared.symbol.RepeatOp.{RepeatOp}
 use Rattle.lalrpop_norm_tree.specs.declared.symbol.RepeatOp.TheVariants.{Star, Plus, Question, Times}
@@ -15,11 +15,11 @@ use Rattle.lalrpop_norm_nodes.specs.declared.given.Environment.{Environment}
 use Rattle.lalrpop_norm_nodes.specs.Wholes.{Whole, one_symbol, one_pattern, Fits, built}
 use Rattle.lalrpop_norm_nodes.specs.Given.{read_whole}
 
--- the node stands for that symbol, spans aside
+-- the node stands for that symbol, up to spans
 abbrev pub IsNodeFor : List Whole → Node → Kind → Type 0
 IsNodeFor ws n k = Fits ws n × (built ws n ≡ one_symbol (unplaced_kind k))
 
--- a symbol, its parts replaced, itself replaced
+-- a symbol with its parts rewritten, itself rewritten
 abbrev pub topped_kind : Kind → Kind
 topped_kind (group ps) = nonterminal (kind_text (group ps))
 topped_kind (call n ps) = nonterminal (kind_text (call n ps))
@@ -37,7 +37,7 @@ topped_kind error_terminal = error_terminal
 abbrev pub topped : Part → Part
 topped (at s k) = at s (topped_kind k)
 
--- symbols read one after another, spans aside
+-- symbols read one after another, up to spans
 abbrev pub bare_wholes : List Whole → Environment → List Part → List Part
 bare_wholes ws e ps = map (λ p. unplaced (read_whole ws e p)) ps
 

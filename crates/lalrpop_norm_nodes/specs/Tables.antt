@@ -1,4 +1,4 @@
--- What a table of nodes has met, and what is met in it.
+-- What a table of nodes has reached, and what is reached in it.
 use Rattle.std.specs.Prelude.{◌≡◌, ⊤, ℕ, Bool, true, List, [], map, length, Option, Some, None, is_some, option_and_then, slice_get, flat_map, nat_eq}
 use Rattle.std.specs.Cmp.Lexicographic.{pointwise}
 use Rattle.std.specs.HashMap.{get}
@@ -13,7 +13,7 @@ use Rattle.lalrpop_norm_nodes.specs.declared.table.Table.{Table}
 use Rattle.lalrpop_norm_nodes.specs.declared.table.Waiting.{Waiting}
 use Rattle.lalrpop_norm_nodes.specs.Wholes.{Whole, one_symbol, symbols, one_pattern, patterns, part_at, wholes, texts_of, AreNodes, StandsFor, Grows}
 
--- what the numbers of a table stand for
+-- what the ids of a table stand for
 abbrev pub wholes_in : Table → List Whole
 wholes_in t = wholes t.nodes
 
@@ -21,7 +21,7 @@ wholes_in t = wholes t.nodes
 abbrev pub is_declared_in : Table → List ℕ → Bool
 is_declared_in t = has_key t.names
 
--- the symbol itself at a place, if it is made into a rule, and its text
+-- the symbol itself at a span, if it is desugared, and its text
 abbrev pub own_at : Span → Whole → List Part
 own_at s (one_symbol k) = own s k
 own_at s (symbols ps) = []
@@ -37,11 +37,11 @@ own_text_in (symbols ps) = None
 own_text_in (one_pattern p) = None
 own_text_in (patterns ps) = None
 
--- the symbols that were met and are made into rules, spans aside, in the order of meeting
+-- the symbols that were reached and are desugared, up to spans, in the order in which they were reached
 abbrev pub seen_in : Table → List Part
 seen_in t = flat_map own_in (wholes_in t)
 
--- what it meets
+-- what it reaches
 abbrev pub met_of : Whole → List Part
 met_of (one_symbol k) = met (at nowhere k)
 met_of (symbols ps) = all_met (parts_of ps)
@@ -58,30 +58,30 @@ IsBare (patterns ps) = ⊤
 abbrev pub text_noted : Table → List ℕ → Option ℕ
 text_noted t x = get (pointwise nat_eq) t.places x
 
--- what is inside it meets
+-- what is inside it reaches
 abbrev pub inner_of : Whole → List Part
 inner_of (one_symbol k) = met_inside k
 inner_of (symbols ps) = all_met (parts_of ps)
 inner_of (one_pattern p) = []
 inner_of (patterns ps) = []
 
--- the symbols that wait, in the order of meeting
+-- the symbols on the worklist, in the order in which they were reached
 abbrev pub waiting_in : Table → List Part
 waiting_in t = map (λ w. symbol_view w.symbol) t.waiting.items
 
--- what their numbers stand for
+-- what their ids stand for
 abbrev pub numbered_in : Table → List Part
 numbered_in t = map (λ w. part_at (wholes_in t) w.number) t.waiting.items
 
--- its number has its text
+-- its id has its text
 abbrev pub IsNumbered : List Whole → Waiting → Type 0
 IsNumbered ws w = option_and_then own_text_in (slice_get ws w.number) ≡ Some (part_text (symbol_view w.symbol))
 
 abbrev pub AreNumbered : List Whole → List Waiting → Type 0
 AreNumbered ws xs = (i : ℕ) (w : Waiting) → slice_get xs i ≡ Some w → IsNumbered ws w
 
--- The nodes stand for symbols without spans, each with its text if it is made into a rule; all that they meet was met; and a text
--- leads to a node just where a symbol of it was met. Each symbol that waits has the number of its text.
+-- The nodes stand for symbols without spans, each with its text if it is desugared; all that they reach was reached. A text leads
+-- to a node if and only if a symbol of it was reached. Each symbol on the worklist has the id of its text.
 pub record IsNodeTable (t : Table) : Type 0 where
   pub nodes : AreNodes t.nodes
   pub texts : texts_of t.nodes ≡ map own_text_in (wholes_in t)
@@ -90,17 +90,17 @@ pub record IsNodeTable (t : Table) : Type 0 where
   pub places : (x : List ℕ) → is_some (text_noted t x) ≡ is_some (first_with_text x (seen_in t))
   pub waiting : AreNumbered (wholes_in t) t.waiting.items
 
--- as many texts were made as symbols are made into rules
+-- as many texts were made as symbols are desugared
 abbrev pub IsCounted : Table → Type 0
 IsCounted t = t.made.count ≡ length (seen_in t)
 
--- the symbols were met
+-- the symbols were reached
 pub record TableMeets (before later : Table) (xs : List Part) : Type 0 where
   pub seen : map unplaced (seen_in later) ≡ map unplaced (after (seen_in before) xs)
   pub names : later.names ≡ before.names
   pub grows : Grows (wholes_in before) (wholes_in later)
   pub table : IsNodeTable later
 
--- what is refused where they are met
+-- the errors where they are reached
 abbrev pub refused_in : Table → List Part → List Fault
 refused_in t xs = clash_faults (is_declared_in t) (seen_in t) xs

@@ -1,4 +1,4 @@
--- The symbols that wait for the rules that they are made into: those that were met first, each where it was met.
+-- The worklist: the symbols whose rules are not generated yet. They are those that were reached first, each where it was reached.
 use Rattle.std.specs.Prelude.{◌≡◌, List, ◌++◌, map, length, drop}
 use Rattle.lalrpop_norm_tree.specs.Symbols.{Part, at}
 use Rattle.lalrpop_norm_tree.specs.SymbolTexts.{part_text}
@@ -10,20 +10,20 @@ use Rattle.lalrpop_norm_nodes.specs.Filled.{filled, inside_replaced}
 use Rattle.lalrpop_norm_nodes.specs.Given.{shown_for}
 use Rattle.lalrpop_norm_nodes.specs.Tables.{seen_in, waiting_in, numbered_in}
 
--- a symbol with its parts replaced, and not itself
+-- a symbol with its parts rewritten, and not itself
 abbrev pub parts_replaced : Part → Part
 parts_replaced (at s k) = at s (inside_replaced k)
 
--- what a symbol that is read meets where it stands, each with its parts replaced
+-- what a symbol that is read reaches, each at its span, with its parts rewritten
 abbrev pub shown_met : Environment → Part → List Part
 shown_met e p = map parts_replaced (met (filled (shown_for e) p))
 
--- of these symbols, met behind those that were seen, the first of each text
+-- of these symbols, reached behind those that were seen, the first of each text
 abbrev pub first_met : List Part → List Part → List Part
 first_met seen xs = drop (length seen) (after seen xs)
 
--- The symbols were met, and those that were met first wait behind the others. Their numbers stand for what was seen since, one after
--- another.
+-- The symbols were reached, and those that were reached first are added to the end of the worklist. Their ids stand for what was
+-- seen since, one after another.
 pub record LeavesWaiting (before later : Table) (xs : List Part) : Type 0 where
   pub waiting : waiting_in later ≡ waiting_in before ++ first_met (seen_in before) xs
   pub texts : map part_text (seen_in later) ≡ map part_text (after (seen_in before) xs)

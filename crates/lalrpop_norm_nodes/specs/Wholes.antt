@@ -1,4 +1,4 @@
--- What the numbers of nodes stand for.
+-- What the ids of nodes stand for: interned terms (`Whole`).
 use Rattle.std.specs.Prelude.{◌≡◌, ⊤, ℕ, true, false, List, [], ◌∷◌, ◌++◌, map, length, Option, Some, None, slice_get}
 use Rattle.lalrpop_norm_tree.specs.declared.symbol.RepeatOp.TheVariants.{Star, Plus, Question, Times}
 use Rattle.lalrpop_norm_tree.specs.Symbols.{ArgumentPattern, one_name, several, argument_patterns_of, Kind, Part, parts_of, group}
@@ -14,7 +14,8 @@ use Rattle.lalrpop_norm_nodes.specs.declared.node.NamedUnary.TheVariants as name
 use Rattle.lalrpop_norm_nodes.specs.declared.node.Binary.TheVariants as binary
 use Rattle.lalrpop_norm_nodes.specs.declared.node.Nodes.{Nodes}
 
--- what a number stands for: a symbol with its spans taken off, such symbols in a row, a pattern, or patterns in a row
+-- what an id stands for, an interned term: a symbol with its spans taken off, such symbols in a row, a pattern, or patterns in a
+-- row
 pub data Whole : Type 0 where
   one_symbol : Kind → Whole
   symbols : List Part → Whole
@@ -37,7 +38,7 @@ abbrev pub as_patterns : Option Whole → List ArgumentPattern
 as_patterns (Some (patterns ps)) = ps
 as_patterns _ = []
 
--- the symbol of a number, and so on
+-- the symbol of an id, and likewise for the other kinds
 abbrev pub kind_at : List Whole → ℕ → Kind
 kind_at ws n = as_kind (slice_get ws n)
 
@@ -78,7 +79,7 @@ built ws (node.Leaf leaf.Lookahead) = one_symbol lookahead
 built ws (node.Leaf leaf.Lookbehind) = one_symbol lookbehind
 built ws (node.Leaf leaf.Error) = one_symbol error_terminal
 
--- the number stands for a symbol, and so on
+-- the id stands for a symbol, and likewise for the other kinds
 abbrev pub IsKind : List Whole → ℕ → Type 0
 IsKind ws n = slice_get ws n ≡ Some (one_symbol (kind_at ws n))
 
@@ -91,7 +92,7 @@ IsPattern ws n = slice_get ws n ≡ Some (one_pattern (pattern_at ws n))
 abbrev pub ArePatterns : List Whole → ℕ → Type 0
 ArePatterns ws n = slice_get ws n ≡ Some (patterns (patterns_at ws n))
 
--- the numbers in a node stand for what it holds
+-- the ids in a node stand for what it holds
 abbrev pub Fits : List Whole → Node → Type 0
 Fits ws (node.Leaf leaf.NoSymbols) = ⊤
 Fits ws (node.Binary binary.Symbols l n) = AreSymbols ws l × IsKind ws n
@@ -116,15 +117,15 @@ Fits ws (node.Leaf leaf.Lookahead) = ⊤
 Fits ws (node.Leaf leaf.Lookbehind) = ⊤
 Fits ws (node.Leaf leaf.Error) = ⊤
 
--- the nodes in the order of their numbers
+-- the nodes in the order of their ids
 abbrev pub nodes_of : Nodes → List Node
 nodes_of t = map (λ e. e.0) t.rows.entries
 
--- the text of each, if it is made into a rule
+-- the text of each, if it is desugared
 abbrev pub texts_of : Nodes → List (Option (List ℕ))
 texts_of t = map (λ e. e.1) t.rows.entries
 
--- what the numbers stand for, number after number
+-- what the ids stand for, id after id
 abbrev pub wholes_on : List Whole → List Node → List Whole
 wholes_on ws [] = ws
 wholes_on ws (n ∷ ns) = wholes_on (ws ++ built ws n ∷ []) ns
@@ -132,7 +133,7 @@ wholes_on ws (n ∷ ns) = wholes_on (ws ++ built ws n ∷ []) ns
 abbrev pub wholes : Nodes → List Whole
 wholes t = wholes_on [] (nodes_of t)
 
--- ---- that the numbers stand for these
+-- ---- that the ids stand for these
 
 abbrev pub StandsFor : List Whole → ℕ → Whole → Type 0
 StandsFor ws i w = slice_get ws i ≡ Some w
@@ -140,7 +141,7 @@ StandsFor ws i w = slice_get ws i ≡ Some w
 abbrev pub IsNew : List Whole → Whole → Type 0
 IsNew ws w = (i : ℕ) → slice_get ws i ≡ Some w → ⊥
 
--- each node's parts have lower numbers of their kind, and no two numbers stand for the same
+-- each node's parts have lower ids of their kind, and no two ids stand for the same
 pub record AreRows (ns : List Node) (ws : List Whole) : Type 0 where
   pub long : length ws ≡ length ns
   pub fit : (i : ℕ) (n : Node) → slice_get ns i ≡ Some n → Fits ws n
@@ -150,11 +151,11 @@ pub record AreRows (ns : List Node) (ws : List Whole) : Type 0 where
 abbrev pub AreNodes : Nodes → Type 0
 AreNodes t = AreRows (nodes_of t) (wholes t)
 
--- what is made into no rule stood there, or was put last, without a text
+-- what is not desugared was there, or was added last, without a text
 pub data EntersPlain (before later : Nodes) (w : Whole) : Type 0 where
   stood : wholes later ≡ wholes before → texts_of later ≡ texts_of before → EntersPlain before later w
   came_last : wholes later ≡ wholes before ++ w ∷ [] → texts_of later ≡ texts_of before ++ None ∷ [] → EntersPlain before later w
 
--- what stood stands, and more may stand behind it
+-- what was there stays, and more may be behind it
 abbrev pub Grows : List Whole → List Whole → Type 0
 Grows ws vs = (more : List Whole) × (vs ≡ ws ++ more)

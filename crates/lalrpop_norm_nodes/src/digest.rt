@@ -1,6 +1,6 @@
 //! A digest of the symbols of a grammar's rules, which is the seed of a table's hashes.
 //!
-//! No key of a table can be chosen that is not written there, or made of what is: so whoever changes a key changes all hashes.
+//! A key of a table can be chosen only if it is written there, or made of what is. Whoever changes a key changes all hashes.
 ghost use Rattle.std.specs.Prelude.{◌≡◌, ◌++◌, map, flat_map};
 ghost use Rattle.std.specs.Hash.{u8, bool, str};
 ghost use Rattle.lalrpop_norm_names.specs.Seeds.{hasher_after, seeded_after};
@@ -15,7 +15,7 @@ use lalrpop_norm_tree::grammar::parse_tree::{
 };
 use std::hash::{DefaultHasher, Hash, Hasher};
 
-/// Reads a text that stands there as what a number says.
+/// Reads a text, as the kind that a number says.
 fn read_text(tag: u8, text: &Atom, reader: &mut DefaultHasher)
     ensures { reader.new ≡ hasher_after reader.old (u8 tag ++ str text.now) }
 {
@@ -165,7 +165,7 @@ fn read_item(item: &GrammarItem, reader: &mut DefaultHasher)
 }
 
 /// The hashes of a table for a grammar of these items: their seed is made of the names of its rules and the symbols of their
-/// alternatives, macros too.
+/// alternatives, macros included.
 pub fn seeded_by(items: &[GrammarItem]) -> Seeded
     ensures { result.start ≡ seeded_after (reader_of_items (map item_view items.now)) }
 {

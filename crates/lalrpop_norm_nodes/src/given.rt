@@ -1,4 +1,4 @@
-//! What the arguments of a macro are bound to, by numbers.
+//! The environment of a macro: what its arguments are bound to, by ids.
 ghost use Rattle.std.specs.Prelude.{◌≡◌, option_map};
 ghost use Rattle.lalrpop_norm_tree.specs.Symbols.{kind_view};
 ghost use Rattle.lalrpop_norm_nodes.specs.Given.{given_in, given_to};
@@ -6,29 +6,30 @@ ghost use Rattle.lalrpop_norm_nodes.specs.Given.{given_in, given_to};
 use lalrpop_norm_names::Names;
 use lalrpop_norm_tree::grammar::parse_tree::{NonterminalString, Symbol, SymbolKind};
 
-/// What a call gives for an argument.
+/// What a call binds an argument to (`given`).
 #[derive(Drop)]
 pub struct Given {
-    /// The number of its node.
+    /// The id of its node.
     pub number: usize,
-    /// What stands in its place, where the call was first met.
+    /// The rewritten symbol, where the call was first reached.
     pub symbol: Symbol,
 }
 
-/// The numbers of the arguments of a macro's definition, by their names, and what a call gives for them.
+/// The environment of a call: the indices of the arguments of a macro's definition, by their names, and what a call binds them
+/// to.
 #[derive(Clone, Copy)]
 pub struct Environment<'a> {
-    /// The number of each argument: the place at which its name stands first.
+    /// The index of each argument: the first index of its name.
     pub numbers: &'a Names,
-    /// What is given for them, in their order.
+    /// What they are bound to, in order.
     pub given: &'a [Given],
 }
 
-/// What is given for a name, if it is that of an argument.
+/// What a name is bound to, if it is that of an argument.
 pub fn given_in<'a>(environment: &Environment<'a>, name: &NonterminalString) -> Option<&'a Given>
     ensures { option_map (λ g. g.now) result ≡ given_in environment.now name.now.0 }
 {
-    // No name needs a hash in most rules, where nothing is given.
+    // No name needs a hash in most rules, where the environment is empty.
     if environment.given.is_empty() {
         return None;
     }
@@ -36,7 +37,7 @@ pub fn given_in<'a>(environment: &Environment<'a>, name: &NonterminalString) -> 
     environment.given.get(place)
 }
 
-/// What is given for a symbol, if it is an argument's name.
+/// What a symbol is bound to, if it is an argument's name.
 pub fn given_to<'a>(environment: &Environment<'a>, kind: &SymbolKind) -> Option<&'a Given>
     ensures { option_map (λ g. g.now) result ≡ given_to environment.now (kind_view kind.now) }
 {

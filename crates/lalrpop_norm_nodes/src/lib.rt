@@ -1,4 +1,5 @@
-//! A table of numbered nodes, one for each class of symbols that are the same apart from spans: the symbols that an expansion met.
+//! A table of interned (hash-consed) nodes, one for each class of symbols that are equal up to spans: the symbols that an
+//! expansion reached.
 #![tactic(auto)]
 
 pub mod digest;

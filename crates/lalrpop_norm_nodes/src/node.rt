@@ -1,4 +1,4 @@
-//! Nodes, and the rows that number them.
+//! Nodes, and the rows that give them ids.
 ghost use Rattle.std.specs.Prelude.{◌≡◌, ◌++◌, ◌∷◌, [], None, OnOk, IfOk, IfSome, IfNone, map};
 ghost use Rattle.lalrpop_norm_nodes.specs.Wholes.{wholes, texts_of, Fits, built, AreNodes, StandsFor, IsNew, EntersPlain};
 ghost use Rattle.lalrpop_norm_nodes.specs.Tables.{own_text_in};
@@ -77,12 +77,12 @@ pub enum Binary {
     Tuple,
 }
 
-/// A symbol, a pattern, or several of them in a row: its case, its name, and the numbers of its parts.
+/// An interned term: a symbol, a pattern, or several of them in a row: its case, its name, and the ids of its parts.
 #[derive(PartialEq, Eq, Drop)]
 pub enum Node {
     /// Without a name or parts.
     Leaf(Leaf),
-    /// A name alone.
+    /// Only a name.
     NamedLeaf(NamedLeaf, Atom),
     /// A terminal.
     Terminal(TerminalString),
@@ -127,7 +127,7 @@ fn case_of(node: &Node) -> u64
     }
 }
 
-/// The case is read as one number. The numbers of the parts are read before a text: behind one they would be read byte by byte.
+/// The case is read as one number. The ids of the parts are read before a text: behind one they would be read byte by byte.
 impl Hash for Node {
     ghost use Rattle.lalrpop_norm_nodes.specs.NodeWrites.{node_writes, same_writes};
 
@@ -158,14 +158,14 @@ impl Hash for Node {
     }
 }
 
-/// The nodes in the order of their numbers, each with its text if it is made into a rule.
+/// The nodes in the order of their ids, each with its text if it is desugared.
 #[derive(Drop)]
 pub struct Nodes {
     pub(crate) rows: IndexMap<Node, Option<Atom>, Seeded>,
 }
 
 impl Nodes {
-    /// No nodes yet, to be found by these hashes, and room for so many.
+    /// No nodes yet, to be found by these hashes, and room for that many.
     pub(crate) fn with_room(
         alloc: Global,
         hash_builder: Seeded,
@@ -179,7 +179,7 @@ impl Nodes {
         Ok(Nodes { rows })
     }
 
-    /// The number of a node, if it has one.
+    /// The id of a node, if it has one.
     pub(crate) fn find(&self, node: &Node) -> Option<usize>
         requires nodes { AreNodes self.now }
         requires fits { Fits (wholes self.now) node.now }
@@ -189,7 +189,7 @@ impl Nodes {
         self.rows.get_index_of(node)
     }
 
-    /// The number of a node that is made into no rule: a new one is put last, without a text.
+    /// The id of a node that is not desugared: a new one is added last, without a text.
     pub(crate) fn enter(&mut self, node: Node) -> Result<usize, NoMemory>
         requires nodes { AreNodes self.old }
         requires texts { texts_of self.old ≡ map own_text_in (wholes self.old) }
@@ -199,12 +199,12 @@ impl Nodes {
         ensures entered { OnOk result (EntersPlain self.old self.new (built (wholes self.old) node)) }
         ensures number { IfOk result (λ i. StandsFor (wholes self.new) i (built (wholes self.old) node)) }
     {
-        // A node that stands has no text either, so its row stays as it is.
+        // A node that is there has no text either: its row stays as it is.
         let (number, _) = self.rows.insert_full(node, None)?;
         Ok(number)
     }
 
-    /// Puts a new node last, with its text if it is made into a rule: its number.
+    /// Adds a new node last, with its text if it is desugared, and answers its id.
     pub(crate) fn put(&mut self, node: Node, text: Option<Atom>) -> Result<usize, NoMemory>
         requires nodes { AreNodes self.old }
         requires fits { Fits (wholes self.old) node }

@@ -1,4 +1,4 @@
-//! The numbers of what a symbol is made of.
+//! The ids of the parts of a symbol.
 ghost use Rattle.std.specs.Prelude.{◌≡◌, true, IfOk, Some, map, length, option_and_then, option_map, slice_get};
 ghost use Rattle.lalrpop_norm_model.specs.MadeRules.{kind_of, all_kinds};
 ghost use Rattle.lalrpop_norm_nodes.specs.Wholes.{one_symbol, kind_at, symbols_at, IsKind, AreSymbols, StandsFor};
@@ -42,7 +42,7 @@ fn part_of_repeat(node: &Node) -> usize
     }
 }
 
-/// What stands before the last of a row, and the last.
+/// What is before the last of a row, and the last.
 fn last_in_row(node: &Node) -> Option<(usize, usize)>
     ensures { result ≡ last_in_row node.now }
 {
@@ -57,7 +57,7 @@ fn last_in_row(node: &Node) -> Option<(usize, usize)>
     }
 }
 
-/// The number of what a repeat repeats.
+/// The id of what a repeat repeats.
 pub fn repeated_number(table: &Table, number: usize) -> usize
     requires table { IsNodeTable table.now }
     requires stands { IsKind (wholes_in table.now) number }
@@ -70,7 +70,7 @@ pub fn repeated_number(table: &Table, number: usize) -> usize
     }
 }
 
-/// The number of the row of a call's arguments.
+/// The id of the row of a call's arguments.
 fn arguments_row(table: &Table, number: usize) -> usize
     requires table { IsNodeTable table.now }
     requires stands { IsKind (wholes_in table.now) number }
@@ -96,7 +96,7 @@ fn row_end(table: &Table, row: usize) -> Option<(usize, usize)>
     }
 }
 
-/// Symbols with the numbers of a row, from the last one on.
+/// Symbols with the ids of a row, from the last one on.
 fn given_in_row(
     alloc: Global,
     table: &Table,
@@ -122,7 +122,7 @@ fn given_in_row(
     Ok(given)
 }
 
-/// The arguments of a call, with their numbers.
+/// The arguments of a call, with their ids.
 pub fn given_by_call(
     alloc: Global,
     table: &Table,

@@ -18,7 +18,7 @@ fn name_node(name: &Name) -> Result<Node, NoMemory>
     Ok(Node::NamedLeaf(NamedLeaf::Pattern, name.name.clone()?))
 }
 
-/// The number of a pattern.
+/// The id of a pattern.
 #[cycle(pattern)]
 fn enter_pattern(pattern: &ArgPattern, table: &mut Table) -> Result<usize, NoMemory>
     requires { IsNodeTable table.old }
@@ -36,7 +36,7 @@ fn enter_pattern(pattern: &ArgPattern, table: &mut Table) -> Result<usize, NoMem
     }
 }
 
-/// The number of patterns in a row.
+/// The id of patterns in a row.
 #[cycle(pattern)]
 pub(crate) fn enter_patterns(several: &[ArgPattern], table: &mut Table) -> Result<usize, NoMemory>
     requires { IsNodeTable table.old }

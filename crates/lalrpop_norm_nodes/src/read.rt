@@ -1,4 +1,4 @@
-//! Symbols read in an environment of numbers, and replaced where they stand.
+//! Symbols read in an environment of ids, and rewritten in place.
 ghost use Rattle.std.specs.Prelude.{◌≡◌, true, None, Some, IfOk, OnOk, is_some, map, option_and_then, option_map, slice_get};
 ghost use Rattle.lalrpop_norm_tree.specs.Symbols.{at, group, call, nonterminal, kind_view, symbol_view, parts_view, expr_view, macro_view};
 ghost use Rattle.lalrpop_norm_faults.specs.Faults.{Refuses};
@@ -24,7 +24,7 @@ use lalrpop_norm_tree::grammar::parse_tree::{
 };
 use std::alloc::Global;
 
-/// Whether a symbol is made into a rule.
+/// Whether a symbol is desugared.
 fn is_made(kind: &SymbolKind) -> bool
     ensures { result ≡ is_some (own_text (at nowhere (kind_view kind.now))) }
 {
@@ -44,7 +44,7 @@ fn is_made(kind: &SymbolKind) -> bool
     }
 }
 
-/// Puts what is given in the place of an argument's name.
+/// Substitutes what an argument is bound to for its name.
 fn put_given(given: &Given, symbol: &mut Symbol) -> Result<usize, NoMemory>
     ensures value { OnOk result (symbol_view symbol.new ≡ at symbol.old.span (kind_view given.now.symbol.kind)) }
     ensures number { IfOk result (λ i. i ≡ given.now.number) }
@@ -53,7 +53,7 @@ fn put_given(given: &Given, symbol: &mut Symbol) -> Result<usize, NoMemory>
     Ok(given.number)
 }
 
-/// Enters a symbol that is made into a rule, its parts replaced, and puts the nonterminal of its text in its place.
+/// Interns a symbol that is desugared, its parts rewritten, and rewrites it to the nonterminal of its text.
 fn make_symbol(
     alloc: Global,
     node: Node,
@@ -75,7 +75,7 @@ fn make_symbol(
     table.enter_made(alloc, node, symbol)
 }
 
-/// Enters a symbol, its parts replaced, and replaces it.
+/// Interns a symbol, its parts rewritten, and rewrites it.
 fn enter_symbol(
     alloc: Global,
     node: Node,
@@ -120,9 +120,9 @@ fn named_node(name: &Name, number: usize) -> Result<Node, NoMemory>
     Ok(Node::NamedUnary(NamedUnary::Named, name.name.clone()?, number))
 }
 
-/// Reads a symbol where the names of arguments stand for what is given: its number. What is made into a rule in it is met, and the
-/// nonterminal of its text put in its place; a name that is an argument's makes room for what is given for it. A text that is taken
-/// is refused at the symbol that has it (F37).
+/// Reads a symbol in an environment, and answers its id. Each symbol in it that is desugared is reached and rewritten to the
+/// nonterminal of its text; a name that is an argument's is substituted. A text that is taken is an error at the symbol that has
+/// it (F37).
 #[cycle(read)]
 pub fn read_symbol(
     alloc: Global,
@@ -169,7 +169,7 @@ fn read_boxed(
     Ok(number)
 }
 
-/// Reads what is inside a symbol that is no argument's name: its node.
+/// Reads what is inside a symbol that is no argument's name, and answers its node.
 #[cycle(read)]
 fn node_of(
     alloc: Global,
@@ -240,7 +240,7 @@ fn read_repeated(
     Ok(number)
 }
 
-/// Reads a group: its node.
+/// Reads a group, and answers its node.
 #[cycle(read)]
 fn read_group(
     alloc: Global,
@@ -262,7 +262,7 @@ fn read_group(
     Ok(Node::Unary(Unary::Group, row))
 }
 
-/// Reads a macro call: its node.
+/// Reads a macro call, and answers its node.
 #[cycle(read)]
 fn read_call(
     alloc: Global,
@@ -285,7 +285,7 @@ fn read_call(
     Ok(Node::NamedUnary(NamedUnary::Call, name, row))
 }
 
-/// Reads symbols in a row, one after another: the number of the row.
+/// Reads symbols in a row, one after another, and answers the id of the row.
 ///
 /// Errors: F37 (`SharedName`) at the first symbol in them whose text is a declared name or the text of another node; `Memory`.
 #[cycle(read)]

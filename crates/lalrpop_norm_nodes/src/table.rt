@@ -1,4 +1,4 @@
-//! The nodes of the symbols that were met, and their texts.
+//! The nodes of the symbols that were reached, and their texts.
 ghost use Rattle.std.specs.Prelude.{◌≡◌, ◌+◌, ◌++◌, ◌∷◌, ◌||◌, [], false, None, Some, IfOk, OnOk, is_some, length, map, option_map, option_and_then, slice_get};
 ghost use Rattle.lalrpop_norm_tree.specs.Symbols.{at, nonterminal, symbol_view};
 ghost use Rattle.lalrpop_norm_tree.specs.SymbolTexts.{part_text};
@@ -20,28 +20,28 @@ use std::alloc::Global;
 use std::collections::{HashMap, HashSet};
 use std::mem;
 
-/// A symbol that waits for the rule that it is made into, where it was first met.
+/// A symbol on the worklist (`waiting` for its rule), where it was first reached.
 #[derive(Drop)]
 pub struct Waiting {
-    /// The number of its node.
+    /// The id of its node.
     pub number: usize,
-    /// The symbol, its parts replaced.
+    /// The symbol, its parts rewritten.
     pub symbol: Symbol,
 }
 
-/// The symbols that were met, as numbered nodes. A number stands for the same as long as the table is there.
+/// The symbols that were reached, as interned nodes. An id stands for the same term as long as the table is there.
 #[derive(Drop)]
 pub struct Table {
     /// The names that the grammar declares.
     names: HashSet<Atom, Seeded>,
     nodes: Nodes,
-    /// The number of the node of each text.
+    /// The id of the node of each text.
     places: HashMap<Atom, usize, Seeded>,
     /// How many texts were made.
     made: Counter,
-    /// The symbols that wait for their rules, in the order of meeting.
+    /// The worklist: the symbols whose rules are not generated yet, in the order in which they were reached.
     waiting: Vec<Waiting>,
-    /// The number that `Leaf::NoSymbols` was given when it was entered last. Another node may have it while none was.
+    /// The id that `Leaf::NoSymbols` got when it was interned last. Another node may have it if none was.
     no_symbols: usize,
 }
 
@@ -58,7 +58,7 @@ fn shared_name(alloc: Global, name: &Atom, span: Span) -> NormFailure
 }
 
 impl Table {
-    /// A table for a grammar that declares these names, with room for so many nodes: no symbol was met yet.
+    /// A table for a grammar that declares these names, with room for that many nodes: no symbol was reached yet.
     pub fn with_room(
         alloc: Global,
         names: HashSet<Atom, Seeded>,
@@ -82,7 +82,7 @@ impl Table {
         })
     }
 
-    /// How many texts were made: as many as there are symbols that are made into rules.
+    /// How many texts were made: as many as there are symbols that are desugared.
     pub fn text_count(&self) -> usize
         requires { IsCounted self.now }
         ensures { result ≡ length (seen_in self.now) }
@@ -90,7 +90,7 @@ impl Table {
         self.made.count()
     }
 
-    /// Whether a text is a declared name, or that of a symbol that was met.
+    /// Whether a text is a declared name, or that of a symbol that was reached.
     fn is_taken(&self, name: &Atom) -> bool
         requires { IsNodeTable self.now }
         ensures { result ≡ (is_declared_in self.now name.now || is_some (first_with_text name.now (seen_in self.now))) }
@@ -98,7 +98,7 @@ impl Table {
         self.names.contains(name) || self.places.contains_key(name)
     }
 
-    /// The node of a number.
+    /// The node of an id.
     pub fn node(&self, number: usize) -> Option<&Node>
         ensures { option_map (λ n. n.now) result ≡ slice_get (nodes_of self.now.nodes) number }
     {
@@ -108,7 +108,7 @@ impl Table {
         }
     }
 
-    /// The text of a node, if it is made into a rule.
+    /// The text of a node, if it is desugared.
     pub fn text_of(&self, number: usize) -> Option<&Atom>
         requires { IsNodeTable self.now }
         ensures { option_map (λ t. t.now) result ≡ option_and_then own_text_in (slice_get (wholes_in self.now) number) }
@@ -119,7 +119,7 @@ impl Table {
         }
     }
 
-    /// The number of a node that is made into no rule.
+    /// The id of a node that is not desugared.
     pub fn enter(&mut self, node: Node) -> Result<usize, NoMemory>
         requires table { IsNodeTable self.old }
         requires fits { Fits (wholes_in self.old) node }
@@ -132,7 +132,7 @@ impl Table {
         self.nodes.enter(node)
     }
 
-    /// The number of `Leaf::NoSymbols`, with which each row begins. Once it is entered, it is looked up no more.
+    /// The id of `Leaf::NoSymbols`, with which each row begins. Once it is interned, it is not looked up again.
     pub fn enter_no_symbols(&mut self) -> Result<usize, NoMemory>
         requires { IsNodeTable self.old }
         ensures meets { OnOk result (TableMeets self.old self.new []) }
@@ -148,7 +148,7 @@ impl Table {
         Ok(number)
     }
 
-    /// Puts a new node last that is made into a rule of that text.
+    /// Adds a new node last that is desugared to a rule of that text.
     fn put_made(&mut self, node: Node, name: Atom) -> Result<usize, NoMemory>
         requires table { IsNodeTable self.old }
         requires fits { Fits (wholes_in self.old) node }
@@ -182,7 +182,7 @@ impl Table {
         ensures places { OnOk result (self.new.places ≡ self.old.places) }
         ensures waiting { OnOk result (self.new.waiting ≡ self.old.waiting) }
     {
-        // `len` is called for its clause that it is small, which the proof cites.
+        // `len` is called for its contract clause that it is small, which the proof cites.
         let _nodes = self.nodes.rows.len();
         let name = make_text(alloc, symbol, &mut self.made)?;
         if self.is_taken(&name) {
@@ -191,7 +191,7 @@ impl Table {
         Ok(name)
     }
 
-    /// Puts the nonterminal of a node's text in the place of a symbol of that text.
+    /// Rewrites a symbol to the nonterminal of its node's text.
     fn put_name(&self, number: usize, symbol: &mut Symbol) -> Result<(), NoMemory>
         requires table { IsNodeTable self.now }
         requires text { option_and_then own_text_in (slice_get (wholes_in self.now) number) ≡ Some (part_text (symbol_view symbol.old)) }
@@ -203,7 +203,7 @@ impl Table {
         Ok(())
     }
 
-    /// Puts the nonterminal of its text in the place of a symbol, which waits for the rule of its node.
+    /// Rewrites a symbol to the nonterminal of its text, and adds the symbol to the worklist.
     fn put_waiting(
         &mut self,
         number: usize,
@@ -229,7 +229,7 @@ impl Table {
         Ok(())
     }
 
-    /// The symbols that wait, which wait no longer.
+    /// Takes all symbols from the worklist.
     pub fn take_waiting(&mut self, alloc: Global) -> Vec<Waiting>
         requires { IsNodeTable self.old }
         ensures waiting { result ≡ self.old.waiting }
@@ -245,7 +245,7 @@ impl Table {
         mem::replace(&mut self.waiting, Vec::new(alloc))
     }
 
-    /// Puts a new node last that is made into a rule: that of a symbol, the parts of which are replaced, which waits.
+    /// Adds a new node last that is desugared: that of a symbol with its parts rewritten. The symbol is added to the worklist.
     fn enter_new(&mut self, alloc: Global, node: Node, symbol: &mut Symbol) -> NormResult<usize>
         requires table { IsNodeTable self.old }
         requires counted { IsCounted self.old }
@@ -266,8 +266,8 @@ impl Table {
         Ok(number)
     }
 
-    /// The number of a node that is made into a rule: that of a symbol, the parts of which are replaced. The nonterminal of its text is
-    /// put in its place, and a symbol that is new waits for its rule.
+    /// The id of a node that is desugared: that of a symbol with its parts rewritten. The symbol is rewritten to the nonterminal
+    /// of its text, and added to the worklist if it is new.
     ///
     /// Errors: F37 (`SharedName`) at the symbol, where its text is a declared name or the text of another node; `Memory`.
     pub fn enter_made(

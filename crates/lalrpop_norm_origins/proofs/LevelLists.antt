@@ -21,7 +21,7 @@ abbrev origins_of : List Clause → List Origin
 origins_of cs = map (λ (c : Clause). c.origin) cs
 
 module _ (rs : List WrittenRule) (w : WrittenRule) (n : Name) (passes : ℕ → Bool) (f : ℕ → Option ClosedSymbols) where
-  -- f tells the parts of what stands at each place from number k on
+  -- f gives the parts of what is at each index from k on
   abbrev Tells : ℕ → List (Option Leveled) → Type 0
   Tells k ps = (j : ℕ) → f (k + j) ≡ parts_at rs w passes (slice_get ps j)
 

@@ -1,4 +1,4 @@
--- A macro of the grammar with levels, and its list: the written macro's alternatives in order, each from its written place.
+-- A macro of the grammar with levels, and its list: the written macro's alternatives in order, each from its written index.
 use Rattle.std.proofs.Common.{◌≡◌, inl, inr, ℕ, suc, ◌<◌, List, [], ◌∷◌, ◌++◌, length, map, Bool, true, false, Decides, refl, sym, ap, ap₂, ◌∙◌, subst, append-nil, arith}
 use Rattle.std.specs.Prelude.{flat_map, Option, Some, None, option_map, nat_eq, if◌then◌else◌}
 use Rattle.std.proofs.lemmas.Bool.Decides.{Decides-eqb}
@@ -67,7 +67,7 @@ rule_in (d ∷ rs) [] t h = absurd h
 rule_in (d ∷ rs) (os ∷ oss) t (inl e) = inl (ap (λ (x : TracedRule). x.0) e)
 rule_in (d ∷ rs) (os ∷ oss) t (inr h) = inr (rule_in rs oss t h)
 
--- ---- places
+-- ---- indices
 
 places_counted : (n : Name) (k : ℕ) (ps : List (Option Leveled)) → length (places_from n k ps) ≡ length (present ps)
 places_counted n k [] = refl
@@ -83,7 +83,7 @@ conditions_resolved sense qs j (Some a ∷ ps) = ap (λ (cs : List (Option Condi
 
 -- ---- a macro and its list
 
--- t is a written macro: under its name, with its arguments, conditions in their order, and its written places
+-- t is a written macro: under its name, with its arguments, conditions in their order, and its written indices
 pub record IsWrittenMacro (ws : List WrittenRule) (t : TracedRule) : Type 0 where
   pub macro : WrittenRule
   pub there : In macro ws

@@ -1,4 +1,4 @@
--- Origins of plain rules, computed.
+-- Origins of the rules of expanded grammars, computed.
 use Rattle.std.proofs.Common.{◌≡◌, [], ◌∷◌, None, true, refl}
 use Rattle.std.specs.Prelude.{codes, flat_map, is_some}
 use Rattle.lalrpop_norm_tree_names.specs.declared.names.Span.{Span}
@@ -25,7 +25,7 @@ first_alternative = coded here no_parts (codes "1")
 abbrev second_alternative : AlternativeData
 second_alternative = record first_alternative { action = None }
 
--- what is kept of three alternatives, the second of which is not, keeps its own origin; in the macro place 1 was disabled
+-- what is kept of three alternatives, the second of which is not, keeps its own origin; in the macro index 1 was disabled
 kept_keep_their_own : kept_origins (λ a. is_some a.action) (first_alternative ∷ (second_alternative ∷ (first_alternative ∷ [])))
     (written m_name 0 ∷ (written m_name 2 ∷ (written m_name 3 ∷ [])))
     ≡ written m_name 0 ∷ (written m_name 3 ∷ [])
@@ -45,6 +45,6 @@ a_rule = private_rule here lookahead no_attributes None (first_alternative ∷ [
 abbrev a_macro : RuleData
 a_macro = record a_rule { args = (record { 0 = codes "T" }) ∷ [] }
 
--- the list of the macro is none of a plain rule
+-- the list of the macro is none of a rule of the expanded grammar
 macros_are_dropped : flat_map plain_list ((a_macro, written m_name 0 ∷ []) ∷ ((a_rule, written m_name 1 ∷ []) ∷ [])) ≡ (written m_name 1 ∷ []) ∷ []
 macros_are_dropped = refl

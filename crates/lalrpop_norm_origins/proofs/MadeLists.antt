@@ -1,4 +1,4 @@
--- What the expansion hands on for the rules that it makes are the origins of the rules of the closed symbols.
+-- What the expansion answers for the rules that it generates are the origins of the rules of the ground symbols.
 use Rattle.std.proofs.Common.{◌≡◌, inl, inr, ℕ, suc, List, [], ◌∷◌, ◌++◌, map, Bool, true, not, refl, sym, ap, ap₂, ◌∙◌, subst, append-nil}
 use Rattle.std.specs.Prelude.{flat_map, Option, Some, None, option_map, if◌then◌else◌}
 use Rattle.std.proofs.lemmas.Bool.{and_parts}
@@ -124,7 +124,7 @@ module _ (value : ConditionValue) (fs : Features) (g : GrammarData) (N : HasLeve
       ∙ ap (λ k. kept_there (λ a. holds a.alternative.condition) w.macro.places (places_from k 0 w.macro.places)) named
       ∙ sym (calls_keep value ws m args w.macro here has fit)
 
-  -- a symbol that is made into a rule
+  -- a symbol that is desugared
   made_read : (p : Part) (x : ClosedSymbol) → closed p ≡ leveled_symbol ln x → is_scoped (map flat_of (all_rules h)) [] p ≡ true → BecomesRule (closed p) →
       in_one_list (made_origins value (traced_macro ts) p) ≡ rule_origins M x
   made_read (at s (written.group ps)) (group gs) e i k = refl

@@ -71,7 +71,7 @@ paired_map : {A : Type 0} (f : A → RuleData) (h : A → List Origin) (xs : Lis
 paired_map f h [] = refl
 paired_map f h (x ∷ xs) = ap (λ (ts : List TracedRule). (f x, h x) ∷ ts) (paired_map f h xs)
 
--- what is paired of two maps is paired at one place
+-- what is paired of two maps is paired at one index
 pub in_paired : {A : Type 0} (f : A → RuleData) (h : A → List Origin) (xs : List A) (t : TracedRule) → In t (paired (map f xs) (map h xs)) →
     (x : A) × In x xs × (t ≡ (f x, h x))
 in_paired f h [] t i = absurd i

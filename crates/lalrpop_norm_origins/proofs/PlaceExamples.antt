@@ -1,4 +1,4 @@
--- Origins of places, computed.
+-- Origins of indices, computed.
 use Rattle.std.proofs.Common.{◌≡◌, ℕ, List, [], ◌∷◌, Option, Some, None, refl}
 use Rattle.std.specs.Prelude.{codes}
 use Rattle.lalrpop_norm_theory.specs.Symbols.{Name}

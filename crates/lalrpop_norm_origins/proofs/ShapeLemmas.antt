@@ -1,4 +1,4 @@
--- The lists that are handed on have their shape: one list for each rule, and in it one origin for each alternative.
+-- The lists that the passes answer have their shape: one list for each rule, and in it one origin for each alternative.
 use Rattle.std.proofs.Common.{◌≡◌, inl, inr, suc, List, [], ◌∷◌, ◌++◌, length, map, Bool, true, false, refl, sym, ap, ◌∙◌, subst, arith}
 use Rattle.std.specs.Prelude.{ℕ, flat_map, Option, Some, None, option_map, if◌then◌else◌}
 use Rattle.std.proofs.lemmas.List.{length-map, map-append}
@@ -119,7 +119,7 @@ shaped_plain (extern_item t ∷ items) oss h = shaped_plain items oss h
 shaped_plain (intern_item t ∷ items) oss h = shaped_plain items oss h
 shaped_plain (use_item u ∷ items) oss h = shaped_plain items oss h
 
--- ---- made rules
+-- ---- generated rules
 
 abbrev item_of : RuleData → ItemData
 item_of r = rule_item (replaced_rule r)
@@ -177,7 +177,7 @@ module _ (value : ConditionValue) (macros : List RuleData) (found : Name → Opt
       (shaped_both (map item_of (made_rules value macros p)) (map item_of (flat_map (made_rules value macros) ps))
       (made_origins value found p) (flat_map (made_origins value found) ps) (shaped_made p) (all_shaped ps))
 
--- ---- the grammar of plain rules
+-- ---- the expanded grammar
 
 pub shaped_expanded : (value : ConditionValue) (g : GrammarData) (oss : List (List Origin)) (count : ℕ) → IsShaped g.items oss →
     IsShaped (plain_grammar value g count).items (expanded_lists value g oss count)

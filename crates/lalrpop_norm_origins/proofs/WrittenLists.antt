@@ -76,9 +76,9 @@ has_present (Some a ∷ ps) = ap (λ b. has_level_attribute a || b) (has_present
 levels_present : (ps : PlacedAlternatives) → levels_there (with_levels (map Some (present ps))) ≡ levels_there (with_levels ps)
 levels_present ps = ap (λ xs. map (λ (a : Leveled). a.level) xs) (sym (disabled_are_no_matter ps))
 
--- ---- places
+-- ---- indices
 
--- only where something stands is looked at
+-- only indices at which there is something are looked at
 places_numbered : (n : Name) (sense : List ℕ → Option Sense) (qs : PlacedAlternatives) (k j : ℕ) (ps : PlacedAlternatives) →
     places_from n k (map_numbered (leveled_at qs) j (map (option_map (resolved_alternative sense)) ps)) ≡ places_from n k ps
 places_numbered n sense qs k j [] = refl

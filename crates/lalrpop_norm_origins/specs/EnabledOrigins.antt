@@ -1,4 +1,4 @@
--- The origins of the enabled grammar's alternatives, rule by rule: each comes from its written place.
+-- The origins of the enabled grammar's alternatives, rule by rule: each comes from its written index.
 use Rattle.std.specs.Prelude.{ℕ, suc, List, [], ◌∷◌, flat_map, Option, Some, None, if◌then◌else◌}
 use Rattle.lalrpop_norm_tree.specs.Items.{RuleData, ItemData, GrammarData, rule_item, match_item, extern_item, intern_item}
 use Rattle.lalrpop_norm_tree.specs.Items.{use_item}
@@ -8,12 +8,12 @@ use Rattle.lalrpop_norm_theory.specs.LoweredTrees.{written}
 use Rattle.lalrpop_norm_model.specs.Features.{Features, is_active}
 use Rattle.lalrpop_norm_model.specs.Enabled.{enabled_places}
 
--- the origin of what stands at place k, if an alternative does, before those of the rest
+-- the origin of the alternative at index k, if there is one, before those of the rest
 abbrev pub place_and : {A : Type 0} → Name → ℕ → Option A → List theory.Origin → List theory.Origin
 place_and n k None rest = rest
 place_and n k (Some a) rest = written n k ∷ rest
 
--- those of the places from k on at which there is an alternative
+-- those of the indices from k on at which there is an alternative
 abbrev pub places_from : {A : Type 0} → Name → ℕ → List (Option A) → List theory.Origin
 places_from n k [] = []
 places_from n k (p ∷ ps) = place_and n k p (places_from n (suc k) ps)

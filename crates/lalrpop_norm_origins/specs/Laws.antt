@@ -22,7 +22,7 @@ use Rattle.lalrpop_norm_origins.specs.EnabledOrigins.{places_from, enabled_origi
 use Rattle.lalrpop_norm_origins.specs.LeveledOrigins.{level_origins, leveled_lists}
 use Rattle.lalrpop_norm_origins.specs.MadeOrigins.{expanded_lists, in_one_list}
 
--- of a written rule that is no macro one list for each level, rising, where each alternative comes from its written place
+-- of a written rule that is no macro one list for each level, rising, where each alternative comes from its written index
 abbrev pub written_level_origins : WrittenRule → List (List Origin)
 written_level_origins w = if has_arguments w then [] else level_origins w.has_levels w.places (places_from w.name 0 w.places)
 
@@ -32,14 +32,14 @@ LevelOriginsAreRuleOrigins = (value : ConditionValue) (rs : List WrittenRule) �
     ((w : WrittenRule) → In w rs → rule_named rs w.name ≡ Some w) →
     flat_map written_level_origins rs ≡ map (rule_origins (meaning value rs)) (references rs)
 
--- of the origins of the alternatives at some places, those of the alternatives that are kept
+-- of the origins of the alternatives at some indices, those of the alternatives that are kept
 abbrev pub kept_there : (Leveled → Bool) → List (Option Leveled) → List Origin → List Origin
 kept_there keeps [] os = []
 kept_there keeps (None ∷ ps) os = kept_there keeps ps os
 kept_there keeps (Some a ∷ ps) [] = []
 kept_there keeps (Some a ∷ ps) (o ∷ os) = if keeps a then o ∷ kept_there keeps ps os else kept_there keeps ps os
 
--- The origins of the rule of a macro call are those of the written places whose condition is true or absent.
+-- The origins of the rule of a macro call are those of the written indices whose condition is true or absent.
 abbrev pub CallsKeepOrigins : Type 0
 CallsKeepOrigins = (value : ConditionValue) (rs : List WrittenRule) (n : Name) (args : ClosedSymbols) (r : WrittenRule) →
     rule_named rs n ≡ Some r → has_arguments r ≡ true → arguments_fit r.args args ≡ true →
@@ -47,8 +47,8 @@ CallsKeepOrigins = (value : ConditionValue) (rs : List WrittenRule) (n : Name) (
     ≡ kept_there (λ a. is_true value r.args args a.alternative.condition) r.places (places_from n 0 r.places)
 
 -- Of a grammar whose levels can become rules, and whose grammar with levels is settled: where names of written rules are
--- distinct, and the symbols that are made into rules are those of the written grammar, the lists of the plain rules in a row are
--- the origins of the plain rules' alternatives, by the written numbers.
+-- distinct, and the symbols that are desugared are those of the written grammar, the lists of the rules of the expanded grammar,
+-- concatenated, are the origins of its alternatives, by the written indices.
 abbrev pub ListsArePlainOrigins : Type 0
 ListsArePlainOrigins = (value : ConditionValue) (fs : Features) (g : GrammarData) →
     HasLevelNames (prepared_grammar fs g) →

@@ -1,4 +1,4 @@
--- Where the alternatives of the rules of levels come from: one list for each rule of the grammar with levels.
+-- The origins of the alternatives of the rules of levels: one list for each rule of the grammar with levels.
 use Rattle.std.specs.Prelude.{ℕ, Bool, true, false, nat_eq, List, [], ◌∷◌, ◌++◌, map, Option, Some, None, if◌then◌else◌}
 use Rattle.lalrpop_norm_theory.specs.LoweredTrees.{Origin, level_step}
 use Rattle.lalrpop_norm_tree.specs.Items.{RuleData, ItemData, rule_item, match_item, extern_item, intern_item, use_item}

@@ -1,5 +1,5 @@
--- Where the alternatives of the plain rules come from: a rule without arguments keeps its list, and each rule that is made gets its
--- own, which goes along `made_rules`.
+-- The origins of the alternatives of the expanded grammar: a rule without arguments keeps its list, and each generated rule gets
+-- its own, parallel to `made_rules`.
 use Rattle.std.specs.Prelude.{ℕ, Bool, not, ◌&&◌, List, [], ◌∷◌, ◌++◌, flat_map, Option, Some, None, bytes_eq, if◌then◌else◌}
 use Rattle.lalrpop_norm_theory.specs.Symbols.{Name}
 use Rattle.lalrpop_norm_theory.specs.LoweredTrees.{Origin, from_group, star_empty, star_some, plus_one, plus_more, question_some}
@@ -43,7 +43,7 @@ abbrev pub traced_macro : List TracedRule → Name → Option TracedRule
 traced_macro [] n = None
 traced_macro (t ∷ ts) n = if is_macro_of n t.0 then Some t else traced_macro ts n
 
--- ---- made rules
+-- ---- generated rules
 
 -- of the origins of some alternatives, those of the alternatives that are kept
 abbrev pub kept_origins : (AlternativeData → Bool) → List AlternativeData → List Origin → List Origin
@@ -63,7 +63,7 @@ repeat_origins Plus = plus_one ∷ plus_more ∷ []
 repeat_origins Question = question_some ∷ question_empty ∷ []
 repeat_origins (Times n) = from_times ∷ []
 
--- one list for each rule that a symbol is made into, where `macro` finds the macros
+-- one list for each rule that a symbol is desugared to, where `macro` finds the macros
 abbrev pub made_origins : ConditionValue → (Name → Option TracedRule) → Part → List (List Origin)
 made_origins value macro (at s (group ps)) = (from_group ∷ []) ∷ []
 made_origins value macro (at s (call n ps)) = instance_origins value (macro n) ps
@@ -78,10 +78,10 @@ made_origins value macro (at s (named n p)) = []
 made_origins value macro (at s (tupled ns p)) = []
 made_origins value macro (at s error_terminal) = []
 
--- ---- the grammar of plain rules
+-- ---- the expanded grammar
 
--- One list for each plain rule, where the first `count` rounds make all: those of the rules that are no macros, then those of the
--- rules made, in the order in which they stand.
+-- One list for each rule of the expanded grammar, if the first `count` rounds generate all rules: those of the rules that are no
+-- macros, then those of the generated rules, in order.
 abbrev pub expanded_lists : ConditionValue → GrammarData → List (List Origin) → ℕ → List (List Origin)
 expanded_lists value g oss count =
     flat_map plain_list (traced_rules g.items oss)

@@ -1,4 +1,4 @@
--- How lists of origins stand beside the rules of a grammar.
+-- How lists of origins correspond to the rules of a grammar.
 use Rattle.std.specs.Prelude.{◌≡◌, List, [], ◌∷◌, length}
 use Rattle.lalrpop_norm_tree.specs.Items.{ItemData, rule_item, match_item, extern_item, intern_item, use_item}
 use Rattle.lalrpop_norm_theory.specs.LoweredTrees.{Origin}

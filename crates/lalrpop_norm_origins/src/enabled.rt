@@ -13,8 +13,8 @@ use lalrpop_norm_tree::grammar::parse_tree::{
 };
 use std::alloc::Global;
 
-/// One list for each rule that the features of the session leave, in item order: of each alternative that they leave in it the
-/// number of its written place. The only error is want of memory.
+/// One list for each rule that the features of the session leave, in item order: for each alternative that they leave in it, its
+/// written index. The only error is a failed allocation.
 pub fn enabled_origins<L>(
     alloc: Global,
     session: &Session<L>,

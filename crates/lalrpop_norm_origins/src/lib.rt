@@ -1,6 +1,6 @@
-//! Where the alternatives of the rules of a grammar come from.
+//! The origins of the alternatives of the rules of a grammar.
 //!
-//! The type stands here once for all passes: each hands on the origins of what it keeps, and adds those of what it makes.
+//! The type is defined here for all passes: each pass answers the origins of what it keeps, and adds those of what it generates.
 #![tactic(auto)]
 
 mod enabled;

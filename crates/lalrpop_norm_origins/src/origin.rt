@@ -1,4 +1,4 @@
-//! Origins of alternatives, and so of productions.
+//! Origins of alternatives and of productions.
 ghost use Rattle.std.specs.Prelude.{◌≡◌};
 
 use lalrpop_norm_tree::grammar::parse_tree::NonterminalString;
@@ -8,8 +8,8 @@ use lalrpop_norm_tree::grammar::parse_tree::NonterminalString;
 pub enum Origin {
     /// A start symbol, over its rule.
     Start,
-    /// An alternative of a rule or macro, by the number of its written place, from 0, disabled ones counted; of each of the
-    /// levels of a rule it names the rule.
+    /// An alternative of a rule or macro, by its written index, from 0, disabled ones counted; of each of the levels of a rule it
+    /// names the rule.
     Written {
         rule: NonterminalString,
         alternative: usize,
@@ -39,7 +39,7 @@ pub enum Origin {
 }
 
 impl Origin {
-    /// The same once more, without new memory.
+    /// A copy, without an allocation.
     pub fn again(&self) -> Origin
         ensures { result ≡ self.now }
     {

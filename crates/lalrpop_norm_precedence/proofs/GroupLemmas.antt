@@ -80,7 +80,7 @@ pub levels_first : (ls : List ℕ) → levels_in (map (λ l. (l, [])) ls) ≡ ls
 levels_first [] = refl
 levels_first (l ∷ ls) = ap (λ ms. l ∷ ms) (levels_first ls)
 
--- ---- the place of a level
+-- ---- the index of a level
 
 in_at : (xs : List ℕ) (i : ℕ) → i < length xs → In (get_or xs i 0) xs
 in_at [] i lt = absurd (omega arith)

@@ -1,4 +1,4 @@
--- Kinds by sides, and attributes taken away.
+-- Kinds by associativities, and attributes taken away.
 use Rattle.std.proofs.Common.{◌≡◌, ℕ, zero, suc, ◌+◌, List, [], ◌∷◌, cond, bytes_eq, ◌&&◌, Bool, true, false, Option, refl, sym, ap, ap₂, ◌∙◌, arith}
 use Rattle.std.specs.Prelude.{unwrap_or, if◌then◌else◌}
 use Rattle.lalrpop_norm_tree_parts.specs.declared.attribute.Attribute.{Attribute}
@@ -24,7 +24,7 @@ every_one : (own : List ℕ → Bool) (k : Kind) (ps : Parts) →
     substituted_parts own (met_kind (k, k) Forward false) 0 0 ps ≡ substituted_parts own (λ before after. k) 0 0 ps
 every_one own k ps = parts_shift own (met_kind (k, k) Forward false) (λ b a. k) 0 0 (λ b a. one_kind k b) 0 0 0 0 (omega arith) (omega arith) ps
 
--- what an occurrence becomes by the side, met one after another
+-- what an occurrence becomes by the associativity, reached one after another
 pub by_side : (own : List ℕ → Bool) (s : Side) (c b : Kind) (ps : Parts) →
     substituted_parts own (met_kind (plan_by_side s c b) (direction_by_side s) false) 0 0 ps ≡ substituted_parts own (kind_by_side s c b) 0 0 ps
 by_side own left c b ps = refl
@@ -32,7 +32,7 @@ by_side own right c b ps = refl
 by_side own neither c b ps = every_one own b ps
 by_side own every c b ps = every_one own c ps
 
--- where none is an own occurrence
+-- where none is a recursive occurrence
 mutual
   kind_untouched : (f : ℕ → ℕ → Kind) (b a : ℕ) (k : Kind) → substituted_kind (λ n. false) f b a k ≡ k
   kind_untouched f b a (nonterminal n) = refl
@@ -92,7 +92,7 @@ module _ (own : List ℕ → Bool) (g : ℕ → ℕ → List ℕ) where
     parts_leveled b a no_parts = refl
     parts_leveled b a (part_and p ps) = ap₂ part_and (part_leveled b (a + count_parts own ps) p) (parts_leveled (b + count_part own p) a ps)
 
--- the kind by a side is the name of the bound
+-- the kind by an associativity is the name of the bound
 first_named_kind : (f : ℕ → List ℕ) (c p i : ℕ) → occurrence (nonterminal (f c), nonterminal (f p)) false i ≡ nonterminal (f (bound_at left c p i 0))
 first_named_kind f c p zero = refl
 first_named_kind f c p (suc i) = refl

@@ -1,4 +1,4 @@
--- The rules of levels have no fault of names but the steps of macros, and nothing is left to resolve in them.
+-- The rules of levels have no name fault but the steps of macros, and nothing is left to resolve in them.
 use Rattle.std.proofs.Common.{◌≡◌, ℕ, suc, ◌+◌, List, [], Option, Some, None, Bool, true, false, refl, ap, ap₂, ◌∙◌}
 use Rattle.std.specs.Prelude.{if◌then◌else◌}
 use Rattle.lalrpop_norm_tree_names.specs.declared.names.Span.{Span}
@@ -10,7 +10,7 @@ use Rattle.lalrpop_norm_model.specs.LevelRules.{leveled_kind, leveled_part, leve
 use Rattle.lalrpop_norm_resolve.specs.NameFaults.{condition_faults, tested_faults, id_faults, nonterminal_faults, macro_name_faults, parts_count, kind_name_faults, part_name_faults, parts_name_faults}
 use Rattle.lalrpop_norm_faults.proofs.FaultLemmas.{left_none, right_none, both_none}
 
--- s and t are what names mean before and after; the names that `level` tells are rules
+-- s and t are what names mean before and after; the names that `level` gives are rules
 module _ (s t : List ℕ → Option Sense) (kept : (n : List ℕ) (x : Sense) → s n ≡ Some x → t n ≡ Some x) where
   pub condition_none : (c : Option Condition) → condition_faults s c ≡ [] → condition_faults t c ≡ []
   unfolding tested_faults

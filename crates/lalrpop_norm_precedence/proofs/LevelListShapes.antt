@@ -34,7 +34,7 @@ step_count : (r : RuleData) (ps : List (Option Leveled)) (o : Option ℕ) → le
 step_count r ps None = refl
 step_count r ps (Some l) = refl
 
--- the levels of a rule's alternatives are those that are handed on
+-- the levels of a rule's alternatives are those that are inherited
 levels_handed_on : (r : RuleData) → levels_there (with_levels (all_places r)) ≡ map (λ (p : ℕ × Side). p.0) (handed_levels None None r.alternatives)
 levels_handed_on r = sym (first_of_pairs (present (with_levels (all_places r)))) ∙ ap (map (λ (p : ℕ × Side). p.0)) (levels_read r)
 

@@ -1,4 +1,4 @@
--- What `expand_precedence` refuses of small grammars, and what it makes of one.
+-- The errors of `expand_precedence` in small grammars, and what it makes of one.
 use Rattle.std.proofs.Common.{◌≡◌, ℕ, List, [], ◌∷◌, refl}
 use Rattle.std.specs.Prelude.{Some, codes}
 use Rattle.std.specs.Fmt.{digits}
@@ -73,8 +73,8 @@ one_level_of_macro : precedence_faults (rules_alone (macro_rule nowhere (codes "
 unfolding digits alternative_name_faults nonterminal_faults level_attribute_faults lowest_faults
 one_level_of_macro = refl
 
--- ---- levels and sides
--- E = { #[precedence(level="1")] #[assoc(side="all")] "n" }: a side on the lowest level
+-- ---- levels and associativities
+-- E = { #[precedence(level="1")] #[assoc(side="all")] "n" }: an associativity on the lowest level
 
 side_on_lowest : precedence_faults (rules_alone (rule nowhere (codes "E") (one_of (precedence (codes "1") ∷ (assoc (codes "all") ∷ [])) (literal (codes "n")) ∷ []) ∷ []))
     ≡ (SideOnLowest, nowhere) ∷ []

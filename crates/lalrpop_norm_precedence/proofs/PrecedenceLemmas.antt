@@ -67,7 +67,7 @@ bound_is right c p b a = by a
 bound_is neither c p b a = inr refl
 bound_is every c p b a = inl refl
 
--- the bound of an own occurrence is a level of the rule
+-- the bound of a recursive occurrence is a level of the rule
 bound_in : (ps : List (Option Leveled)) (a : Leveled) → In a.level (levels_of ps) → (b c : ℕ) →
     In (own_bound a.side a.level (previous_level ps a.level) b c) (levels_of ps)
 bound_in ps a h b c =
@@ -137,7 +137,7 @@ module _ (g : GrammarData) (once : repeated_faults [] (globals (leveled_grammar 
     written_none : (x : AlternativeData) → In x r.alternatives → alternative_name_faults s x ≡ []
     written_none = none_made (alternative_name_faults s) r.alternatives (right_none (repeated_argument_faults r.span r.args) (flat_map (alternative_name_faults s) r.alternatives) (rule_none g sound (rule_item r) there))
 
-    -- an own occurrence becomes the name of a rule
+    -- a recursive occurrence becomes the name of a rule
     own_leveled : (a : Leveled) → has_levels (all_places r) ≡ true → In a.level (levels_of ps) → (n : List ℕ) → is_own r n ≡ true → (b c : ℕ) →
         t (level_of_rule r ps (own_bound a.side a.level (previous_level ps a.level) b c)) ≡ Some (a_global a_rule)
     own_leveled a h i n own b c =
@@ -223,7 +223,7 @@ module _ (g : GrammarData) (once : repeated_faults [] (globals (leveled_grammar 
 
 -- ---- the three lists
 
--- the faults of the whole, where those of names in the grammar and those of its levels do not stand
+-- the faults of the whole, where those of names in the grammar and those of its levels do not hold
 pub later_faults : (g : GrammarData) → resolve_faults g ≡ [] → grammar_level_faults (resolved_grammar g) ≡ [] → precedence_faults g ≡ leveled_faults (resolved_grammar g)
 later_faults g e f = ap₂ (λ (xs ys : List Fault). xs ++ (ys ++ leveled_faults (resolved_grammar g))) e f
 

@@ -1,4 +1,4 @@
--- What is read of a rule's alternatives, one after another, is what its places have.
+-- What is read of a rule's alternatives, one after another, is what its indices have.
 use Rattle.std.proofs.Common.{◌≡◌, ℕ, List, [], ◌∷◌, ◌++◌, map, Option, Some, None, refl, sym, ap, ap₂, ◌∙◌}
 use Rattle.std.specs.Prelude.{unwrap_or}
 use Rattle.std.specs.List.{flat_map}
@@ -56,7 +56,7 @@ lowest_faults_read r xs l e same =
     ∙ faults_handed (lowest_level (with_levels (all_places r))) None None r.alternatives
     ∙ ap (λ k. handed_faults k None r.alternatives) (sym (same ∙ lowest_read r xs (e ∙ sym (levels_read r))))
 
--- the faults of the rule, where those of its first alternative and of its attributes do not stand
+-- the faults of the rule, if those of its first alternative and of its attributes do not hold
 pub level_faults_read : (r : RuleData) (xs : List AlternativeLevel) (l : ℕ) → missing_level_faults r.alternatives ≡ [] → flat_map level_attribute_faults r.alternatives ≡ [] →
     map alternative_level_view xs ≡ handed_levels None None r.alternatives →
     l ≡ unwrap_or (least (map (λ (l : AlternativeLevel). (alternative_level_view l).0) xs)) 0 →

@@ -1,4 +1,4 @@
--- Walks over own occurrences.
+-- Walks over recursive occurrences.
 use Rattle.std.proofs.Common.{◌≡◌, ℕ, zero, suc, ◌+◌, ◌<◌, ◌≤◌, List, [], ◌∷◌, ◌++◌, length, map, take, drop, set, get_or, cond, Bool, true, false, refl, sym, ap, ap₂, ◌∙◌, arith, append_assoc, append-nil}
 use Rattle.std.proofs.lemmas.List.{take_more_set, take-set, take_more, take_all, drop_all, drop_more, drop-set, drop-set-lt, map-append}
 use Rattle.lalrpop_norm_tree.specs.declared.symbol.Symbol.{Symbol}
@@ -18,7 +18,7 @@ substituted_one_by_one own name b a [] = refl
 substituted_one_by_one own name b a (p ∷ ps) =
     rw (count_one_by_one own ps) (ap (λ qs. part_and (substituted_part own name b (a + count_each own ps) p) qs) (substituted_one_by_one own name (b + count_part own p) a ps))
 
--- f counts from a once_met place than g
+-- f counts from a once_met index than g
 abbrev pub Shifts : (ℕ → ℕ → Kind) → (ℕ → ℕ → Kind) → ℕ → ℕ → Type 0
 Shifts f g k m = (b a : ℕ) → f b a ≡ g (b + k) (a + m)
 

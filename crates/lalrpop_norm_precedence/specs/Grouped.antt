@@ -17,7 +17,7 @@ LevelGroup = ℕ × List Leveled
 abbrev pub group_view : Group → LevelGroup
 group_view g = (g.level, map marked_view g.alternatives.items)
 
--- each alternative with the level and the side at its place
+-- each alternative with the level and the associativity at its index
 abbrev pub marked_with : List (ℕ × Side) → List AlternativeData → List Leveled
 marked_with [] xs = []
 marked_with (l ∷ ls) [] = []

@@ -1,4 +1,4 @@
--- Levels and sides handed on from alternative to alternative, as they are read.
+-- Levels and associativities inherited from alternative to alternative, as they are read.
 use Rattle.std.specs.Prelude.{ℕ, List, [], ◌∷◌, ◌++◌, Option, Some, unwrap_or}
 use Rattle.lalrpop_norm_tree.specs.Items.{AlternativeData}
 use Rattle.lalrpop_norm_faults.specs.Faults.{Fault}

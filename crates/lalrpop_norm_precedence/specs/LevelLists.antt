@@ -1,4 +1,4 @@
--- The lists of levels as the code makes them: its own words, of which no public clause speaks.
+-- The lists of levels as the code makes them: internal definitions, which no public contract clause mentions.
 use Rattle.std.specs.Prelude.{ℕ, zero, suc, Bool, true, false, List, [], ◌∷◌, ◌++◌, map}
 use Rattle.lalrpop_norm_theory.specs.LoweredTrees.{Origin, level_step}
 use Rattle.lalrpop_norm_precedence_steps.specs.declared.levels.AlternativeLevel.{AlternativeLevel}

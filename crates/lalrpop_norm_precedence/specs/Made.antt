@@ -1,4 +1,4 @@
--- The rules of levels as they are made, one after another.
+-- The rules of levels as they are generated, one after another.
 use Rattle.std.specs.Prelude.{ℕ, false, List, [], ◌∷◌, ◌++◌, map, Option, Some, unwrap_or, codes}
 use Rattle.std.specs.Prelude.{if◌then◌else◌}
 use Rattle.lalrpop_norm_tree_parts.specs.declared.attribute.Attribute.{Attribute}
@@ -13,7 +13,7 @@ use Rattle.lalrpop_norm_precedence_steps.specs.Steps.{made_steps}
 use Rattle.lalrpop_norm_precedence.specs.Substituted.{substituted_parts}
 use Rattle.lalrpop_norm_precedence.specs.Grouped.{LevelGroup}
 
--- what an own occurrence becomes in an alternative of a side, by how many stand before and after it
+-- what a recursive occurrence becomes in an alternative of an associativity, by how many there are before and after it
 abbrev pub kind_by_side : Side → Kind → Kind → ℕ → ℕ → Kind
 kind_by_side left current below before after = occurrence (current, below) false before
 kind_by_side right current below before after = occurrence (current, below) false after
@@ -28,7 +28,7 @@ less_first name (a ∷ rest) = if is_named name (attribute_view a) then rest els
 abbrev pub without_level_attributes : Attributes → Attributes
 without_level_attributes xs = without_first (codes "assoc") (without_first (codes "precedence") xs)
 
--- an alternative with these two kinds for its own occurrences
+-- an alternative with these two kinds for its recursive occurrences
 unfoldable pub rewritten : RuleData → Kind → Kind → Leveled → AlternativeData
 rewritten r current below a = record a.alternative {
   parts = substituted_parts (is_own r) (kind_by_side a.side current below) 0 0 a.alternative.parts;
@@ -48,7 +48,7 @@ made_rule r highest previous l xs = record r {
 abbrev pub top_of : List LevelGroup → ℕ
 top_of gs = unwrap_or (greatest (map (λ (g : LevelGroup). g.0) gs)) 0
 
--- the level before the first of the groups is handed on
+-- the level before the first of the groups is passed on
 abbrev pub made_level_rules : RuleData → ℕ → Option ℕ → List LevelGroup → List RuleData
 made_level_rules r highest previous [] = []
 made_level_rules r highest previous (g ∷ gs) = made_rule r highest previous g.0 g.1 ∷ made_level_rules r highest (Some g.0) gs

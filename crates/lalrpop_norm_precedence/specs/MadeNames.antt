@@ -1,4 +1,4 @@
--- The names that are made for levels.
+-- The names that are generated for levels.
 use Rattle.std.specs.Prelude.{ℕ, List, [], ◌∷◌, map, flat_map}
 use Rattle.lalrpop_norm_tree.specs.Items.{RuleData, ItemData, GrammarData, match_item}
 use Rattle.lalrpop_norm_tree.specs.Items.{extern_item, intern_item, rule_item, use_item}

@@ -1,5 +1,5 @@
--- The faults that `expand_precedence` looks for: of names in the grammar, then of its levels, then of names in the grammar with
--- levels.
+-- All errors of `expand_precedence`, in visiting order: of names in the grammar, then of its levels, then of names in the grammar
+-- with levels.
 use Rattle.std.specs.Prelude.{ℕ, List, [], ◌∷◌, ◌++◌, map, flat_map, Option, Some, None, if◌then◌else◌}
 use Rattle.lalrpop_norm_tree.specs.Items.{RuleData, ItemData, GrammarData, match_item, extern_item, intern_item, rule_item}
 use Rattle.lalrpop_norm_tree.specs.Items.{use_item}

@@ -1,4 +1,4 @@
--- Own occurrences replaced, by how many of them stand before and after each.
+-- Recursive occurrences substituted, by how many of them there are before and after each.
 use Rattle.std.specs.Prelude.{ℕ, zero, suc, ◌+◌, List, [], ◌∷◌, Bool, true, bytes_eq, if◌then◌else◌}
 use Rattle.lalrpop_norm_tree.specs.Symbols.{Kind, Part, Parts, group, ambiguous_id, terminal, nonterminal, call, repeated, chosen}
 use Rattle.lalrpop_norm_tree.specs.Symbols.{named, tupled, lookahead, lookbehind, error_terminal, at, no_parts, part_and}
@@ -7,7 +7,8 @@ use Rattle.lalrpop_norm_model.specs.Occurrences.{count_part, count_parts}
 abbrev pub is_target : List ℕ → List ℕ → Bool
 is_target target n = bytes_eq n target
 
--- An own occurrence with `before` of them before it and `after` of them after it becomes `kind before after`; all else stays.
+-- A recursive occurrence with `before` of them before it and `after` of them after it becomes `kind before after`; all else
+-- stays.
 abbrev mutual
   pub substituted_kind : (List ℕ → Bool) → (ℕ → ℕ → Kind) → ℕ → ℕ → Kind → Kind
   substituted_kind own kind before after (nonterminal n) = if own n then kind before after else nonterminal n
@@ -32,12 +33,12 @@ abbrev mutual
       part_and (substituted_part own kind before (after + count_parts own ps) p)
       (substituted_parts own kind (before + count_part own p) after ps)
 
--- whether one was met, after so many more
+-- whether one was reached, after that many more
 abbrev pub once_met : Bool → ℕ → Bool
 once_met is_met zero = is_met
 once_met is_met (suc k) = true
 
--- the same of a list
+-- how many recursive occurrences the symbols of a list hold
 abbrev pub count_each : (List ℕ → Bool) → List Part → ℕ
 count_each own [] = 0
 count_each own (p ∷ ps) = count_part own p + count_each own ps

@@ -17,7 +17,7 @@ pub filter_viewed : {X Y : Type 0} (view : X → Y) (test : Y → Bool) (xs : Li
 filter_viewed view test [] = refl
 filter_viewed view test (x ∷ xs) = kept_viewed view x (test (view x)) (filter (λ y. test (view y)) xs) (filter test (map view xs)) (filter_viewed view test xs)
 
--- the alternatives at places that are enabled are the active ones
+-- the alternatives at indices that are enabled are the active ones
 pub active_kept : (fs : Features) (xs : List AlternativeData) → filter (λ a. is_active fs a.attributes) xs ≡ active_alternatives fs xs
 active_kept fs [] = refl
 active_kept fs (x ∷ xs) =

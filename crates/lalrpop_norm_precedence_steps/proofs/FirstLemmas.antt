@@ -1,4 +1,4 @@
--- What the first alternative tells of the levels of a rule.
+-- What the first alternative says of the levels of a rule.
 use Rattle.std.proofs.Common.{◌≡◌, List, [], ◌∷◌, ◌++◌, Option, Some, None, Bool, true, false, ◌&&◌, ◌||◌, map, refl}
 use Rattle.std.specs.Prelude.{flat_map, is_some, is_none, codes}
 use Rattle.lalrpop_norm_tree_parts.specs.Attributes.{AttributeData}
@@ -11,7 +11,7 @@ use Rattle.lalrpop_norm_precedence_steps.specs.Attributes.{first_has_level_attri
 use Rattle.lalrpop_norm_precedence_steps.specs.LevelFaults.{missing_level_faults, level_attribute_faults, lowest_level_faults, level_faults}
 use Rattle.lalrpop_norm_faults.proofs.FaultLemmas.{left_none}
 
--- p is the first `precedence` of the first alternative; y tells whether it has an `assoc`, z whether a later one has either
+-- p is the first `precedence` of the first alternative; y says whether it has an `assoc`, z whether a later one has either
 told_by : (p : Option AttributeData) (y z : Bool) (f : Fault) → fault_if (((is_some p || y) || z) && is_none p) f ≡ [] → (is_some p || y) ≡ ((is_some p || y) || z)
 told_by (Some x) y z f h = refl
 told_by None true z f h = refl

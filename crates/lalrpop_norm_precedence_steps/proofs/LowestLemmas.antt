@@ -1,4 +1,4 @@
--- Where no fault of levels stands, alternatives of the lowest level have every side.
+-- If no fault of levels holds, alternatives of the lowest level have the associativity `all`.
 use Rattle.std.proofs.Common.{◌≡◌, ◌⊎◌, inl, inr, ℕ, ◌<◌, ◌≤◌, Bool, true, false, ◌||◌, List, [], ◌∷◌, ◌++◌, map, Option, Some, None, refl, sym, ap, subst, ◌∙◌, arith}
 use Rattle.std.specs.Prelude.{flat_map, option_and_then, unwrap_or, is_some, nat_lt, nat_eq, codes, if◌then◌else◌}
 use Rattle.std.proofs.lemmas.Bool.{cases_Bool, ltb-true, ltb-false, eq-eqb}
@@ -44,7 +44,7 @@ lesser_at l m ls false e h = (inl refl, all)
     all n (inl i) = omega arith
     all n (inr i) = let most : m ≤ n = h.1 n i in let less : l ≤ m = ltb-false m l e in omega arith
 
--- nothing stands in a list without a least
+-- nothing is in a list without a least
 no_least : (ls : List ℕ) (n : ℕ) → least ls ≡ None → In n ls → ⊥
 no_least [] n e h = h
 no_least (l ∷ ls) n e h = grind arith
@@ -99,7 +99,7 @@ neither_one : (b c : Bool) → (b || c) ≡ false → (b ≡ false) × (c ≡ fa
 neither_one true c e = absurd (cc e)
 neither_one false c e = (refl, e)
 
--- it states no side, or a wide one and no level
+-- it states no associativity, or a wide one and no level
 abbrev IsWide : Option ℕ → Option Side → Type 0
 IsWide o s = (s ≡ None) ⊎ ((is_some o ≡ false) × (is_narrow s ≡ false))
 
@@ -116,10 +116,10 @@ wide_after (Some right) side e h = absurd (cc e)
 wide_after (Some neither) side e h = absurd (cc e)
 wide_after (Some every) side e h = refl
 
--- ---- from place to place
+-- ---- from index to index
 
 module _ (lowest : ℕ) where
-  -- where the level handed on is the lowest, the side handed on with it is every one
+  -- if the inherited level is the lowest, the associativity inherited with it is `all`
   abbrev IsOpen : Option ℕ → Option Side → Type 0
   IsOpen level side = unwrap_or level 0 ≡ lowest → unwrap_or side every ≡ every
 
@@ -158,7 +158,7 @@ module _ (lowest : ℕ) where
       open_case (level_after level (Some x)) (side_after side (Some x)) x rest next
       (open_sides (level_after level (Some x)) (side_after side (Some x)) ps next none.1) a i same
 
--- an alternative of the lowest level has every side
+-- an alternative of the lowest level has the associativity `all`
 side_on_lowest : (ps : PlacedAlternatives) → lowest_level_faults (with_levels ps) ≡ [] → (a : Leveled) → In (Some a) (with_levels ps) →
     previous_level (with_levels ps) a.level ≡ None → a.side ≡ every
 side_on_lowest ps e a i none =

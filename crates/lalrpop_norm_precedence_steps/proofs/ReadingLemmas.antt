@@ -1,4 +1,4 @@
--- What reading levels refuses.
+-- The errors of reading levels.
 use Rattle.std.proofs.Common.{List, Result, Ok, Err}
 use Rattle.lalrpop_norm_faults.specs.declared.failure.NormFailure.{NormFailure}
 use Rattle.lalrpop_norm_faults.specs.Faults.{Fault, Refuses, RefusesOr}

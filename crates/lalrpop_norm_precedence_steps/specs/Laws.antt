@@ -1,4 +1,4 @@
--- What is proved of the faults of levels, in one piece. The function of the module `laws` carries it.
+-- What is proved of the faults of levels. The function of the module `laws` carries it.
 use Rattle.std.specs.Prelude.{◌≡◌, true, List, [], map, replicate, Some, None, bytes_eq}
 use Rattle.lalrpop_norm_tree.specs.Items.{GrammarData}
 use Rattle.lalrpop_norm_theory.specs.Rounds.{In}
@@ -13,8 +13,8 @@ use Rattle.lalrpop_norm_model.specs.Bounds.{all_bounds_to}
 use Rattle.lalrpop_norm_model.specs.Renumbered.{prepared_grammar}
 use Rattle.lalrpop_norm_precedence_steps.specs.LevelFaults.{grammar_level_faults}
 
--- An alternative that has no level of its rule below its own may have that level on every side. So where the rule has levels, and
--- each name has a meaning, all own occurrences have the alternative's own level for their bound.
+-- An alternative that has no level of its rule below its own may have that level on every side of an operator. If the rule has
+-- levels, and each name has a meaning, all recursive occurrences have the alternative's own level for their bound.
 abbrev pub LowestBoundThemselves : List WrittenRule → WrittenRule → Type 0
 LowestBoundThemselves rs r = (a : Leveled) → In (Some a) r.places → previous_level r.places a.level ≡ None →
     (a.side ≡ every)
@@ -22,7 +22,7 @@ LowestBoundThemselves rs r = (a : Leveled) → In (Some a) r.places → previous
     all_bounds_to r.name (read_all (rule_reader rs r a) a.alternative.parts)
     ≡ map Some (replicate (count_parts (λ n. bytes_eq n r.name) a.alternative.parts) a.level))
 
--- Where the pass on levels finds no fault of levels in the grammar that it gets, this is so in each enabled written rule.
+-- If the pass on levels finds no fault of levels in the grammar that it gets, this holds in each enabled written rule.
 abbrev pub LowestLevelsBoundThemselves : Type 0
 LowestLevelsBoundThemselves = (fs : Features) (g : GrammarData) → grammar_level_faults (prepared_grammar fs g) ≡ [] →
     (r : WrittenRule) → In r (written_rules fs g) → LowestBoundThemselves (written_rules fs g) r

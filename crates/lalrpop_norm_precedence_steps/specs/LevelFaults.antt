@@ -1,4 +1,4 @@
--- Faults of the levels of a rule, in the order of looking. Disabled alternatives are not in the rule that is looked at.
+-- Faults of the levels of a rule, in visiting order. Disabled alternatives are not in the rule that is looked at.
 use Rattle.std.specs.Prelude.{ℕ, ◌^◌, Bool, true, false, ◌&&◌, ◌||◌, List, [], ◌∷◌, ◌++◌, length, map}
 use Rattle.std.specs.Prelude.{flat_map, Option, Some, None, unwrap_or, is_some, is_none, nat_lt, nat_eq, codes}
 use Rattle.std.specs.Prelude.{if◌then◌else◌}
@@ -14,7 +14,7 @@ use Rattle.lalrpop_norm_model.specs.Levels.{left, right, neither, every, Leveled
 use Rattle.lalrpop_norm_model.specs.Levels.{stated_level, stated_side, has_levels, with_levels, levels_of}
 use Rattle.lalrpop_norm_model.specs.Levels as levels
 
--- where the name of an attribute stands
+-- the span of the name of an attribute
 abbrev pub name_span : AttributeData → Span
 name_span (attribute s n x) = s
 
@@ -64,7 +64,7 @@ least (l ∷ ls) = Some (lesser_level l (least ls))
 abbrev pub lowest_level : List (Option Leveled) → ℕ
 lowest_level ps = unwrap_or (least (map (λ (a : Leveled). a.level) (present ps))) 0
 
--- a side that leaves the previous level to some own occurrence
+-- an associativity that leaves the previous level to some recursive occurrence
 abbrev pub is_narrow : Option levels.Side → Bool
 is_narrow None = false
 is_narrow (Some left) = true
@@ -72,8 +72,7 @@ is_narrow (Some right) = true
 is_narrow (Some neither) = true
 is_narrow (Some every) = false
 
--- where an alternative states its level, and that is the lowest one, it states no side; where it inherits that level, none but
--- `all`
+-- an alternative that states the lowest level states no associativity; one that inherits that level states none but `all`
 abbrev pub is_barred : AlternativeData → Bool
 is_barred a = is_some (stated_level a.attributes) || is_narrow (stated_side a.attributes)
 
@@ -94,7 +93,7 @@ level_faults r =
     missing_level_faults r.alternatives ++ flat_map level_attribute_faults r.alternatives
     ++ lowest_level_faults (with_levels (all_places r))
 
--- the level and the side of each alternative
+-- the level and the associativity of each alternative
 abbrev pub levels_and_sides : RuleData → List (ℕ × levels.Side)
 levels_and_sides r = map (λ (a : Leveled). (a.level, a.side)) (present (with_levels (all_places r)))
 

@@ -1,4 +1,4 @@
--- Sides as the code names them.
+-- Associativities (`Side`) as the code names them.
 use Rattle.lalrpop_norm_model.specs.Levels.{Side, left, right, neither, every}
 use Rattle.lalrpop_norm_precedence_steps.specs.declared.assoc.Assoc.{Assoc}
 use Rattle.lalrpop_norm_precedence_steps.specs.declared.assoc.Assoc.TheVariants.{Left, Right, NonAssoc, FullyAssoc}

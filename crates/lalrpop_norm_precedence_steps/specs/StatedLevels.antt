@@ -1,4 +1,4 @@
--- Levels and sides as they are held, and whether several levels are among them.
+-- Levels and associativities as they are held, and whether several levels are among them.
 use Rattle.std.specs.Prelude.{ℕ, Bool, false, not, nat_eq, List, [], ◌∷◌, Result, Ok, Err}
 use Rattle.std.specs.List.{list_any}
 use Rattle.lalrpop_norm_model.specs.Levels.{Side}

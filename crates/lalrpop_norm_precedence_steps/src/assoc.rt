@@ -1,22 +1,22 @@
-//! On which side an alternative may be iterated.
+//! The associativity of an alternative.
 ghost use Rattle.std.specs.Prelude.{◌≡◌, Some, codes};
 
 use std::fmt;
 use std::str::FromStr;
 
-/// On which side of an operator its own level may stand.
+/// The associativity of an alternative: on which side of an operator its own level may be.
 ///
-/// The *own occurrences* of an alternative are its references to its own rule, in reading order. Those of the
-/// current level let the alternative be iterated there; those of the previous level, the next lower one, do not.
+/// The *recursive occurrences* of an alternative are its references to its own rule, in reading order. Those of the current level
+/// let the alternative be iterated there; those of the previous level, the next lower one, do not.
 #[derive(Clone, Copy, PartialEq, Eq)]
 pub enum Assoc {
-    /// `left`: the first own occurrence has the current level, all others the previous one.
+    /// `left`: the first recursive occurrence has the current level, all others the previous one.
     Left,
-    /// `right`: the last own occurrence has the current level, all others the previous one.
+    /// `right`: the last recursive occurrence has the current level, all others the previous one.
     Right,
-    /// `none`: each own occurrence has the previous level.
+    /// `none`: each recursive occurrence has the previous level.
     NonAssoc,
-    /// `all`: each own occurrence has the current level. An alternative without a side has this one.
+    /// `all`: each recursive occurrence has the current level. An alternative without an associativity has this one.
     FullyAssoc,
 }
 
@@ -28,7 +28,7 @@ impl Default for Assoc {
     }
 }
 
-/// A text that names no side. It prints LALRPOP's words, which leave `all` out.
+/// A text that names no associativity. It prints LALRPOP's words, which leave `all` out.
 #[derive(Clone, Debug, PartialEq, Eq, Drop)]
 pub struct ParseAssocError {
     private: (),
@@ -52,7 +52,7 @@ impl FromStr for Assoc {
 
     ghost from_str_gives = { λ text r. option_map side_of (result_ok r) ≡ side_named text };
 
-    /// The side that a text names: `left`, `right`, `none` or `all`. Any other text names none.
+    /// The associativity that a text names: `left`, `right`, `none` or `all`. Any other text names none.
     fn from_str(s: &str) -> Result<Assoc, ParseAssocError> {
         match s {
             "left" => Ok(Assoc::Left),

@@ -1,4 +1,4 @@
-//! Attributes by name, and the names of those that state levels and sides.
+//! Attributes by name, and the names of those that state levels and associativities.
 ghost use Rattle.std.specs.Prelude.{◌≡◌, ◌||◌, is_some, option_map, codes};
 ghost use Rattle.lalrpop_norm_tree_parts.specs.Attributes.{attribute_view, attributes_view};
 ghost use Rattle.lalrpop_norm_model.specs.Levels.{first_named};
@@ -9,7 +9,7 @@ use lalrpop_norm_tree::grammar::parse_tree::Attribute;
 pub const PREC_ATTR: &str = "precedence";
 /// Its argument.
 pub const LVL_ARG: &str = "level";
-/// The attribute that states the side of an alternative: `#[assoc(side = "left")]`.
+/// The attribute that states the associativity of an alternative: `#[assoc(side = "left")]`.
 pub const ASSOC_ATTR: &str = "assoc";
 /// Its argument.
 pub const SIDE_ARG: &str = "side";

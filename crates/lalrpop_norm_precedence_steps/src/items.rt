@@ -6,7 +6,7 @@ ghost use Rattle.lalrpop_norm_precedence_steps.specs.OtherItems.{other_items};
 
 use lalrpop_norm_tree::grammar::parse_tree::{GrammarItem, NoMemory, NonterminalData};
 
-/// The rule that an item is. Any other item is put behind the items so far, as it is.
+/// The rule that an item is. Any other item is added behind the items so far, as it is.
 pub fn rule_or_push(
     item: GrammarItem,
     items: &mut Vec<GrammarItem>,

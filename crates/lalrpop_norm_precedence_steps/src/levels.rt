@@ -1,4 +1,4 @@
-//! Levels and sides of the alternatives of a rule: whether there are any, and what is refused at sight of them.
+//! Levels and associativities of the alternatives of a rule: whether there are any, and the faults that need nothing else.
 ghost use Rattle.std.specs.Prelude.{◌≡◌, [], Some, map, nat_eq, not};
 ghost use Rattle.std.specs.List.{list_any};
 ghost use Rattle.lalrpop_norm_tree.specs.Items.{alternative_view, rule_view};
@@ -15,19 +15,19 @@ use lalrpop_norm_faults::{FaultKind, NormResult, refusal};
 use lalrpop_norm_tree::grammar::parse_tree::{Alternative, NonterminalData};
 use std::alloc::Global;
 
-/// The level and the side of an alternative.
+/// The level and the associativity of an alternative.
 #[derive(Clone, Copy, PartialEq, Eq)]
 pub struct AlternativeLevel {
-    /// The level stated last at or before the alternative: 0 to 4294967295. Where none is stated, 0.
+    /// The level stated last at or before the alternative: 0 to 4294967295. If none is stated, 0.
     pub level: u32,
-    /// The side stated last at or before the alternative and not before its level; `all` where none is.
+    /// The associativity stated last at or before the alternative and not before its level; `all` if there is none.
     pub side: Assoc,
 }
 
 /// Whether the first alternative of a rule has a `precedence` or an `assoc`. Whether a rule has levels is another
 /// question: there each alternative counts.
 ///
-/// Where a rule has no fault of levels, the first alternative tells whether the rule has levels.
+/// If a rule has no fault of levels, it has levels if and only if its first alternative has one of the two.
 #[tactic(auto, using(crate::proofs::FirstLemmas::first_tells))]
 pub fn has_prec_attr(non_term: &NonterminalData) -> bool
     ensures first { result ≡ first_has_level_attribute (rule_view non_term.now).alternatives }
@@ -93,7 +93,7 @@ fn any_other(first: u32, levels: &[AlternativeLevel]) -> bool
     false
 }
 
-/// Refuses a macro if it has several levels.
+/// An error at a macro if it has several levels.
 pub fn check_several(alloc: Global, rule: &NonterminalData, several: bool) -> NormResult<()>
     ensures { Refuses result (fault_if several (FaultKind.NotNonterminal, (rule_view rule.now).span)) }
 {
@@ -110,7 +110,7 @@ pub fn check_several(alloc: Global, rule: &NonterminalData, several: bool) -> No
     Ok(())
 }
 
-/// The same answer, without its levels.
+/// The answer without its levels: whether there is an error, and which.
 pub fn without_levels(read: NormResult<Vec<AlternativeLevel>>) -> NormResult<()>
     ensures { result ≡ without_value read }
 {

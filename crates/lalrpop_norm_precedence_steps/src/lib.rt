@@ -1,5 +1,5 @@
-//! Parts of the first passes: each looks at one attribute, at one alternative or those of one rule, or at one item, and at nothing
-//! else.
+//! Parts of the first passes: each looks at one attribute, at one alternative or those of one rule, or at one item, and at
+//! nothing else.
 #![tactic(auto)]
 
 pub mod assoc;

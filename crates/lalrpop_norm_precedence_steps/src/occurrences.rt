@@ -1,4 +1,4 @@
-//! What own occurrences become: by the side of their alternative, and one after another as they are met.
+//! What recursive occurrences become: by the associativity of their alternative, and one after another as they are reached.
 ghost use Rattle.std.specs.Prelude.{◌≡◌, IfOk};
 ghost use Rattle.lalrpop_norm_tree.specs.Symbols.{kind_view};
 ghost use Rattle.lalrpop_norm_precedence_steps.specs.Sides.{side_of};
@@ -8,16 +8,16 @@ use crate::assoc::Assoc;
 use lalrpop_norm_tree::grammar::parse_tree::SymbolKind;
 use std::alloc::AllocError;
 
-/// What own occurrences become, one after another as they are met.
+/// What recursive occurrences become, one after another as they are reached.
 #[derive(Clone, Copy, PartialEq, Eq)]
 pub enum Substitution<'a> {
-    /// The one met first becomes the first kind, all others become the second one.
+    /// The one reached first becomes the first kind, all others become the second one.
     OneThen(&'a SymbolKind, &'a SymbolKind),
     /// Each becomes this kind.
     Every(&'a SymbolKind),
 }
 
-/// In which order own occurrences are met.
+/// In which order recursive occurrences are reached.
 #[derive(Clone, Copy, PartialEq, Eq)]
 pub enum Direction {
     /// In reading order.
@@ -26,7 +26,7 @@ pub enum Direction {
     Backward,
 }
 
-/// What own occurrences become in an alternative of this side: the current level, or the one below.
+/// What recursive occurrences become in an alternative of this associativity: the current level, or the one below.
 pub fn substitution_by_side<'a>(
     side: Assoc,
     current: &'a SymbolKind,
@@ -41,7 +41,7 @@ pub fn substitution_by_side<'a>(
     }
 }
 
-/// In which order they are met there.
+/// In which order they are reached there.
 pub fn direction_by_side(side: Assoc) -> Direction
     ensures { result ≡ direction_by_side (side_of side) }
 {

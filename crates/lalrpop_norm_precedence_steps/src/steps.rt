@@ -11,7 +11,7 @@ use lalrpop_norm_tree::grammar::parse_tree::{
 };
 use std::alloc::Global;
 
-/// The name of a level of a rule: that of the rule for the highest one, else with the number of the level behind it.
+/// The name of a level of a rule: that of the rule for the highest one; any other ends in the number of the level.
 pub fn level_name(
     alloc: Global,
     name: &NonterminalString,
@@ -27,7 +27,7 @@ pub fn level_name(
     Ok(NonterminalString(Atom::new(alloc, &text)?))
 }
 
-/// Puts the step to the level below, if there is one, behind the alternatives of a level.
+/// Adds the step to the level below, if there is one, behind the alternatives of a level.
 pub fn push_step(
     alloc: Global,
     head: &NonterminalData,
@@ -47,7 +47,7 @@ pub fn push_step(
     }
 }
 
-/// The step to another rule: its name alone.
+/// The step to another rule: only its name.
 fn step_alternative(
     alloc: Global,
     span: Span,

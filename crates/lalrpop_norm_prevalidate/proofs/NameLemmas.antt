@@ -1,4 +1,4 @@
--- The place of a name, once it is noted.
+-- The span of a name, once it is noted.
 use Rattle.std.proofs.Common.{◌≡◌, ℕ, List, Option, Some, cond, ap, ◌∙◌, nat_cmp}
 use Rattle.std.specs.Prelude.{if◌then◌else◌}
 use Rattle.std.specs.Cmp.Lexicographic.{slice_cmp}

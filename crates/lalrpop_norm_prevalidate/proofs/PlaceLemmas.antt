@@ -1,4 +1,4 @@
--- Faults along a list are those at its places, each by what stands before it.
+-- Faults along a list are those at its indices, each by what is before it.
 use Rattle.std.proofs.Common.{◌≡◌, ℕ, Bool, true, false, ◌||◌, ◌&&◌, List, [], ◌∷◌, ◌++◌, map, refl, ap, ap₂, ◌∙◌}
 use Rattle.std.specs.Prelude.{not, bytes_eq, codes, if◌then◌else◌}
 use Rattle.std.specs.List.{list_any}

@@ -1,4 +1,4 @@
--- The faults of an alternative, in the order in which they are looked for: its symbols, its attributes, its code.
+-- The faults of an alternative, in visiting order: its symbols, its attributes, its code.
 use Rattle.std.specs.Prelude.{ℕ, List, [], ◌∷◌, ◌++◌, Option, Some, None}
 use Rattle.lalrpop_norm_tree_names.specs.declared.names.Span.{Span}
 use Rattle.lalrpop_norm_tree.specs.Accessors.{or_else}
@@ -22,7 +22,7 @@ abbrev pub first_inside : Parts → Option Span
 first_inside no_parts = None
 first_inside (part_and (at s k) ps) = or_else (place_inside k) (first_inside ps)
 
--- F14: a value with a name, and no code
+-- F14: a value with a name, and no action code
 abbrev pub lacking_faults : Option Span → List Fault
 lacking_faults None = []
 lacking_faults (Some s) = (NamedWithoutAction, s) ∷ []

@@ -9,7 +9,7 @@ use Rattle.lalrpop_norm_model.specs.Enabled.{enabled_rule, enabled_extern}
 abbrev pub active_conversions : Features → List ConversionData → List ConversionData
 active_conversions fs cs = filter (λ c. is_active fs c.attributes) cs
 
--- a rule stays where it is active, all else always
+-- a rule stays if it is active, all else always
 abbrev pub stays : Features → ItemData → Bool
 stays fs (rule_item r) = is_active fs r.attributes
 stays fs (match_item m) = true

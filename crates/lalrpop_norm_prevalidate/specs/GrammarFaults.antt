@@ -1,4 +1,4 @@
--- The faults of a grammar that need no names, in the order in which they are looked for. Disabled parts count like all others.
+-- The faults of a grammar that need no names, in visiting order. Disabled parts count like all others.
 use Rattle.std.specs.Prelude.{ℕ, Bool, true, false, ◌||◌, ◌&&◌, not, List, [], ◌∷◌, ◌++◌, map, flat_map}
 use Rattle.std.specs.Prelude.{Option, Some, None, is_some, is_none, bytes_eq, codes, if◌then◌else◌}
 use Rattle.std.specs.List.{list_any}
@@ -110,7 +110,7 @@ enum_faults None = []
 enum_faults (Some e) =
     fault_if (holds_symbol e.type_name) (WrittenOfSymbol, e.type_span) ++ flat_map conversion_faults e.conversions
 
--- an extern block, after another one or not: F4, F3 where it has an enum, associated types, enum
+-- an extern block, after another one or not: F4, F3 if it has an enum, associated types, enum
 unfoldable pub extern_faults : Blocks → Bool → ExternTokenData → List Fault
 extern_faults b seen t =
     fault_if seen (SecondExtern, t.span)
@@ -133,7 +133,7 @@ item_faults c b s m e (intern_item t) = (WrittenIntern, s) ∷ []
 item_faults c b s m e (rule_item r) = rule_faults c r
 item_faults c b s m e (use_item u) = []
 
--- each item by the blocks that stand before it
+-- each item by the blocks before it
 abbrev pub items_faults : Surroundings → Blocks → Span → List ItemData → List Fault
 items_faults c b s is = each_after (λ before i. item_faults c b s (list_any is_match before) (list_any is_extern before) i) [] is
 
@@ -170,7 +170,7 @@ abbrev pub match_span : Option MatchTokenData → Option Span
 match_span None = None
 match_span (Some m) = Some m.span
 
--- where the block stands, if it has an enum
+-- the span of the block, if it has an enum
 abbrev pub enum_span : Option ExternTokenData → Option Span
 enum_span None = None
 enum_span (Some t) = if is_some t.enum_token then Some t.span else None

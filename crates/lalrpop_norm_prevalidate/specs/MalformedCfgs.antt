@@ -1,4 +1,4 @@
--- Where a `cfg` of a grammar is of no known form: the place of F11 at each attribute that fails, in the order of visiting.
+-- The spans of the `cfg` of a grammar that are of no known form: the span of F11 at each attribute that fails, in visiting order.
 use Rattle.std.specs.Prelude.{List, [], ◌∷◌, ◌++◌, flat_map, Option, Some, None}
 use Rattle.lalrpop_norm_tree_names.specs.declared.names.Span.{Span}
 use Rattle.lalrpop_norm_tree_parts.specs.Attributes.{AttributeData, Attributes, no_attributes, attribute_and}

@@ -1,4 +1,4 @@
--- The faults of symbols, in the order in which they are looked for.
+-- The faults of symbols, in visiting order.
 use Rattle.std.specs.Prelude.{ℕ, Bool, true, false, List, [], ◌∷◌, ◌++◌, Option, Some, None, bytes_eq, is_some}
 use Rattle.std.specs.Prelude.{option_map, if◌then◌else◌}
 use Rattle.std.specs.Ordering.{is_lt, nat_cmp}
@@ -28,7 +28,7 @@ abbrev pub name_of : Kind → Option (List ℕ)
 name_of (named n p) = Some n.name
 name_of k = None
 
--- the first chosen symbol
+-- the first selected symbol
 abbrev pub first_chosen : Parts → Option Span
 first_chosen no_parts = None
 first_chosen (part_and (at s k) ps) = if is_chosen_kind k then Some s else first_chosen ps
@@ -46,22 +46,22 @@ abbrev pub named_at : List ℕ → Parts → Option Span
 named_at name no_parts = None
 named_at name (part_and (at s k) ps) = if is_that_name name (name_of k) then Some s else named_at name ps
 
--- a name with its place, if there is one
+-- a name with its span, if there is one
 abbrev pub placed : (List ℕ → Option Span) → Option (List ℕ) → Option (List ℕ × Span)
 placed place None = None
 placed place (Some n) = option_map (λ s. (n, s)) (place n)
 
--- a name with the place of the second symbol of that name, if there is one
+-- a name with the span of the second symbol of that name, if there is one
 abbrev pub again : Option (List ℕ) → Parts → Option (List ℕ × Span)
 again name ps = placed (λ n. named_at n ps) name
 
--- of two repeated names the lesser, and of one name the earlier place
+-- of two repeated names the lesser, and of one name the earlier span
 abbrev pub lesser_name : Option (List ℕ × Span) → Option (List ℕ × Span) → Option (List ℕ × Span)
 lesser_name None r = r
 lesser_name (Some n) None = Some n
 lesser_name (Some n) (Some r) = if is_lt (slice_cmp nat_cmp r.0 n.0) then Some r else Some n
 
--- the least name that two symbols have, with the place of the second of them
+-- the least name that two symbols have, with the span of the second of them
 abbrev pub least_twice : Parts → Option (List ℕ × Span)
 least_twice no_parts = None
 least_twice (part_and (at s k) ps) = lesser_name (again (name_of k) ps) (least_twice ps)
@@ -75,7 +75,7 @@ abbrev pub repeated_name_faults : Option (List ℕ × Span) → List Fault
 repeated_name_faults None = []
 repeated_name_faults (Some n) = (NameTwice, n.1) ∷ []
 
--- what is wrong with a list of symbols beside the symbols
+-- the faults of a list of symbols beside those of the symbols
 abbrev pub beside_faults : Parts → List Fault
 beside_faults ps = mixed_faults (first_chosen ps) (has_named ps) ++ repeated_name_faults (least_twice ps)
 

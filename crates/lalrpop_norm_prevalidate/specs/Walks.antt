@@ -1,4 +1,4 @@
--- The code's own words: faults along a list, where what stood before is handed on. By places they are those of GrammarFaults.
+-- Internal definitions: faults along a list, where what came before is passed on. By indices they are those of GrammarFaults.
 use Rattle.std.specs.Prelude.{ℕ, Bool, ◌||◌, List, [], ◌∷◌, ◌++◌}
 use Rattle.lalrpop_norm_tree_names.specs.declared.names.Span.{Span}
 use Rattle.lalrpop_norm_tree_parts.specs.Attributes.{Attributes, no_attributes, attribute_and}

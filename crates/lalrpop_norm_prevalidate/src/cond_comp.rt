@@ -19,7 +19,7 @@ use lalrpop_norm_tree::grammar::parse_tree::{Conversion, EnumToken, Grammar, Gra
 use std::alloc::Global;
 
 /// The grammar without the rules, alternatives and conversions that the features of the session turn off, all else as it
-/// was. It is always Ok: want of memory is none of its answers.
+/// was. It is always Ok: it never runs out of memory.
 pub fn remove_disabled_decls<L>(session: &Session<L>, mut grammar: Grammar) -> NormResult<Grammar>
     ensures { IsOkAnd result (λ g. grammar_view g ≡ enabled_grammar (features_view session.now.features) (grammar_view grammar)) }
 {
@@ -28,8 +28,8 @@ pub fn remove_disabled_decls<L>(session: &Session<L>, mut grammar: Grammar) -> N
     Ok(grammar)
 }
 
-/// The same grammar, and where the alternatives that are left come from: one list for each rule in item order, one origin
-/// for each alternative, which is the number of its written place. The only error is want of memory.
+/// The grammar of `remove_disabled_decls`, and the origins of the alternatives that are left: one list for each rule in item
+/// order, one origin for each alternative, which is its written index. The only error is a failed allocation.
 pub fn remove_disabled_traced<L>(
     alloc: Global,
     session: &Session<L>,

@@ -1,4 +1,4 @@
-//! The passes that read a tree before its names are resolved: what is checked of all items, and which parts are conditional.
+//! The passes that read a tree before its names are resolved: the checks of all items, and conditional compilation.
 #![tactic(auto)]
 
 pub mod cond_comp;

@@ -1,4 +1,4 @@
-//! Checks of a written grammar that need no names. They look at all parts, also at those that a `cfg` turns off.
+//! Checks of a written grammar that need no names. They check all parts, also those that a `cfg` turns off.
 ghost use Rattle.std.specs.Prelude.{◌≡◌, ◌||◌, Some, true, false, map, flat_map};
 ghost use Rattle.lalrpop_norm_tree.specs.Accessors.{or_else};
 ghost use Rattle.lalrpop_norm_tree_parts.specs.Attributes.{attributes_view};
@@ -26,7 +26,7 @@ use std::alloc::Global;
 use tokens::{validate_extern, validate_match};
 use types::clause_holds;
 
-/// What the symbols of a grammar stand in.
+/// The context of the symbols of a grammar.
 #[derive(Clone, Copy)]
 pub(crate) struct Surroundings {
     /// `recursive_ascent` or `test_all` is in force.
@@ -38,15 +38,15 @@ pub(crate) struct Surroundings {
 /// The first blocks of a grammar.
 #[derive(Clone, Copy)]
 pub(crate) struct Blocks {
-    /// Where the first match block stands.
+    /// The span of the first match block.
     first_match: Option<Span>,
-    /// Where the first extern block stands, if it has an enum.
+    /// The span of the first extern block, if it has an enum.
     first_enum: Option<Span>,
 }
 
-/// Checks a written grammar, as users hand it in, for the faults F1 to F24.
+/// Checks a written grammar, as users pass it, for the faults F1 to F24.
 ///
-/// It is Ok where there is none; a refusal is the first one in the order of visiting. The other error is want of memory.
+/// Unless an allocation fails, it succeeds if and only if none of them holds, and else reports the first one in visiting order.
 pub fn validate(alloc: Global, grammar: &Grammar) -> NormResult<()>
     ensures { Refuses result (validate_faults (grammar_view grammar.now)) }
 {

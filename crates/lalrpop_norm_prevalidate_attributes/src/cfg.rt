@@ -112,7 +112,7 @@ fn check_each(alloc: Global, attributes: &[Attribute]) -> NormResult<()>
 
 /// Checks the argument of a `cfg`.
 ///
-/// Errors: F11 (`MalformedCfg`) at `span`, the place of the attribute's name, where it is none that a `cfg` takes; `Memory`.
+/// Errors: F11 (`MalformedCfg`) at `span`, the span of the attribute's name, if it is none that a `cfg` takes; `Memory`.
 pub fn validate_cfg(alloc: Global, span: Span, arg: &AttributeArg) -> NormResult<()>
     ensures { Refuses result (cfg_faults span (argument_view arg.now)) }
 {

@@ -19,7 +19,7 @@ use Rattle.lalrpop_norm_resolve.specs.NameTables.{def_of, NameRows, with_def, al
 use Rattle.lalrpop_norm_resolve.specs.NewNames.{with_made, are_new}
 use Rattle.lalrpop_norm_resolve.proofs.GlobalLemmas.{later}
 
--- ---- how often a name stands in a list
+-- ---- how often a name is in a list
 
 abbrev pub times : {A : Type 0} → (A → List ℕ) → List ℕ → List A → ℕ
 times f q [] = 0
@@ -126,7 +126,7 @@ made_once rows count known once (n ∷ ns) h q =
     let rest = made_once (with_def rows n Rule) (λ p. count p + cond (bytes_eq n p) 1 0) (known_more rows count n known) (once_more rows count n known parts.0 once) ns parts.1 q in
     omega arith
 
--- of the names defined once and the names made that are new each stands once
+-- of the names defined once and the generated names that are new each is there once
 pub all_once : (ds : List Global) (ns : List (List ℕ)) → repeated_faults [] ds ≡ [] → are_new (all_rows [] ds) ns ≡ true → (q : List ℕ) →
     times name_of q ds + times same_name q ns ≤ 1
 all_once ds ns none new =

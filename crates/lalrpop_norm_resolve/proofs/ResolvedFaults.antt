@@ -1,4 +1,4 @@
--- What is resolved has no fault of names.
+-- What is resolved has no name fault.
 use Rattle.std.proofs.Common.{◌≡◌, ℕ, suc, List, [], ◌∷◌, ◌++◌, Option, Some, None, map, refl, ap, ◌∙◌}
 use Rattle.std.specs.Prelude.{flat_map}
 use Rattle.lalrpop_norm_tree_names.specs.declared.names.Span.{Span}

@@ -1,4 +1,4 @@
--- The faults of names in a grammar, in the order in which they are looked for: definitions of a name that has one already, then
+-- The faults of names in a grammar, in visiting order: definitions of a name that has one already, then
 -- rule by rule the names of arguments, and alternative by alternative its condition and the names in its symbols.
 use Rattle.std.specs.Prelude.{ℕ, zero, suc, Bool, false, not, ◌||◌, List, [], ◌∷◌, ◌++◌, flat_map, Option, Some}
 use Rattle.std.specs.Prelude.{None, is_some, nat_eq}
@@ -30,7 +30,7 @@ has_repeated_argument (a ∷ rest) = is_argument rest a.0 || has_repeated_argume
 abbrev pub repeated_argument_faults : Span → List NonterminalString → List Fault
 repeated_argument_faults s args = fault_if (has_repeated_argument args) (ArgumentTwice, s)
 
--- the left side of a condition: F27, or F28 where it is no argument
+-- the left operand of a condition: F27, or F28 if it is no argument
 unfoldable pub tested_faults : Span → Option Sense → List Fault
 tested_faults s None = (NoDefinition, s) ∷ []
 tested_faults s (Some an_argument) = []
@@ -40,7 +40,7 @@ abbrev pub condition_faults : (List ℕ → Option Sense) → Option Condition �
 condition_faults sense None = []
 condition_faults sense (Some c) = tested_faults c.span (sense c.lhs.0)
 
--- an identifier: F27, or F32 where it is a macro's
+-- an identifier: F27, or F32 if it is a macro's
 unfoldable pub id_faults : Span → Option Sense → List Fault
 id_faults s None = (NoDefinition, s) ∷ []
 id_faults s (Some an_argument) = []
@@ -48,7 +48,7 @@ id_faults s (Some (a_global a_rule)) = []
 id_faults s (Some (a_global a_terminal)) = []
 id_faults s (Some (a_global (a_macro n))) = (MacroNamed, s) ∷ []
 
--- a nonterminal: F27, or F29 where it is a terminal's or a macro's
+-- a nonterminal: F27, or F29 if it is a terminal's or a macro's
 unfoldable pub nonterminal_faults : Span → Option Sense → List Fault
 nonterminal_faults s None = (NoDefinition, s) ∷ []
 nonterminal_faults s (Some an_argument) = []
@@ -56,7 +56,7 @@ nonterminal_faults s (Some (a_global a_rule)) = []
 nonterminal_faults s (Some (a_global a_terminal)) = (NotNonterminal, s) ∷ []
 nonterminal_faults s (Some (a_global (a_macro n))) = (NotNonterminal, s) ∷ []
 
--- the macro of a call with so many arguments: F27, F30 where it is no macro, F31 where it takes another number
+-- the macro of a call with that many arguments: F27, F30 if it is no macro, F31 if it takes another number
 unfoldable pub macro_name_faults : Span → ℕ → Option Sense → List Fault
 macro_name_faults s given None = (NoDefinition, s) ∷ []
 macro_name_faults s given (Some an_argument) = (NotMacro, s) ∷ []

@@ -26,7 +26,7 @@ sense_view Rule = a_global a_rule
 sense_view (Macro n) = a_global (a_macro n)
 sense_view MacroArg = an_argument
 
--- what a name is said to mean, if it is said
+-- the entry of a name, if there is one
 abbrev pub sense_seen : Option Def → Option Sense
 sense_seen d = option_map sense_view d
 
@@ -45,7 +45,7 @@ GlobalMap = HashMap Atom Def Seeded
 unfoldable pub rows_of : GlobalMap → NameRows
 rows_of m name = get bytes_eq m name
 
--- what a name means by the table, and by what says of a name whether it is an argument's
+-- what a name means by the table, and by a test of whether it is an argument's
 abbrev pub sense_beside : GlobalMap → (List ℕ → Bool) → List ℕ → Option Sense
 sense_beside m is_own name = if is_own name then Some an_argument else sense_seen (rows_of m name)
 

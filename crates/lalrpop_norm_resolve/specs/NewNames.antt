@@ -1,4 +1,4 @@
--- Names that are made: whether the table of global names has none of them.
+-- Generated names: whether the table of global names has none of them.
 use Rattle.std.specs.Prelude.{ℕ, Bool, true, ◌&&◌, List, [], ◌∷◌, Some, is_none, bytes_eq, if◌then◌else◌}
 use Rattle.std.specs.HashSet.{HashSet, contains}
 use Rattle.lalrpop_norm_names.specs.declared.seeded.Seeded.{Seeded}
@@ -14,7 +14,7 @@ table_rows names = rows_of names.table
 abbrev pub with_made : NameRows → HashSet Atom Seeded → NameRows
 with_made rows made name = if contains bytes_eq made name then Some Rule else rows name
 
--- no name is in the table, nor there twice
+-- no name is in the table, and none is in the list twice
 abbrev pub are_new : NameRows → List (List ℕ) → Bool
 are_new rows [] = true
 are_new rows (n ∷ ns) = is_none (rows n) && are_new (with_def rows n Rule) ns

@@ -1,4 +1,4 @@
-//! Global names handed on: a grammar whose names are resolved, beside the table by which they were.
+//! Global names passed on: a grammar whose names are resolved, beside the table by which they were.
 ghost use Rattle.std.specs.Prelude.{◌≡◌, [], IfOk, OnOk, map};
 ghost use Rattle.lalrpop_norm_tree.specs.Items.{grammar_view, item_view};
 ghost use Rattle.lalrpop_norm_faults.specs.Faults.{Refuses, RefusesOr};
@@ -26,13 +26,13 @@ pub struct GlobalNames {
 /// A grammar whose names are resolved, and its global names.
 #[derive(Drop)]
 pub struct Resolved {
-    /// The grammar, each name of which is what it means.
+    /// The grammar, with each name as what it means.
     pub grammar: Grammar,
     /// The global names of the grammar, and what each is declared as.
     pub names: GlobalNames,
 }
 
-/// What [`resolve`](crate::resolve::resolve) answers, with the global names, for a pass that makes more of them.
+/// The answer of [`resolve`](crate::resolve::resolve), with the global names, for a pass that generates more of them.
 ///
 /// Errors: those of `resolve`, F25 to F32; `Memory`.
 pub fn resolve_names(alloc: Global, mut grammar: Grammar) -> NormResult<Resolved>
@@ -53,7 +53,7 @@ fn resolve_in_place(alloc: Global, items: &mut [GrammarItem]) -> NormResult<Glob
     Ok(GlobalNames { table: globals })
 }
 
-/// Whether none of some names is among the global ones, nor stands there twice.
+/// Whether none of some names is among the global ones, and none is there twice.
 pub fn are_new(alloc: Global, names: GlobalNames, made: &[Atom]) -> Result<bool, NoMemory>
     ensures { IfOk result (λ new. new ≡ are_new (table_rows names) made.now) }
 {

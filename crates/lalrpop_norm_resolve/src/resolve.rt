@@ -1,7 +1,7 @@
 //! Resolving names: each identifier becomes the nonterminal or the bare terminal that it means.
 //!
-//! Global names come in this order: rules, then the bare terminals of conversions, then those of match blocks. In a rule a name is
-//! the rule's argument of that name, else the global one.
+//! Global names come in this order: rules, then the bare terminals of conversions, then those of match blocks. In a rule a name
+//! is the rule's argument of that name, else the global one.
 ghost use Rattle.std.specs.Prelude.{◌≡◌, [], IfOk};
 ghost use Rattle.lalrpop_norm_tree.specs.Items.{grammar_view};
 ghost use Rattle.lalrpop_norm_faults.specs.Faults.{Refuses, RefusesOr};
@@ -50,9 +50,9 @@ pub(crate) type GlobalTable = HashMap<Atom, Def, Seeded>;
 
 /// The grammar with each identifier in its alternatives as the nonterminal or bare terminal that it means, all else as it was.
 ///
-/// A grammar is refused by the first of its faults of names (F25 to F32): a name that is defined twice, at the later definition;
-/// then rule by rule an argument that is named twice, at the rule, and a name that is not in scope or means the wrong thing, at its
-/// symbol or condition. The grammar is consumed, also where it is refused. The other error is want of memory.
+/// The first name fault is reported (F25 to F32): a name that is defined twice, at the later definition; then rule by rule an
+/// argument that is named twice, at the rule, and a name that is not in scope or means the wrong thing, at its symbol or
+/// condition. The grammar is consumed, also if it is rejected. The other error is a failed allocation.
 pub fn resolve(alloc: Global, grammar: Grammar) -> NormResult<Grammar>
     ensures resolves { RefusesOr result (resolve_faults (grammar_view grammar)) (λ g. grammar_view g ≡ resolved_grammar (grammar_view grammar)) }
     // resolving what it answers finds no fault and changes nothing
@@ -62,9 +62,9 @@ pub fn resolve(alloc: Global, grammar: Grammar) -> NormResult<Grammar>
     Ok(resolved.grammar)
 }
 
-/// Looks for a name that is defined twice among the global ones (F25), and refuses it at the later definition.
+/// Looks for a name that is defined twice among the global ones (F25), and reports it at the later definition.
 ///
-/// The other error is want of memory.
+/// The other error is a failed allocation.
 pub fn check_globals(alloc: Global, grammar: &Grammar) -> NormResult<()>
     ensures { Refuses result (repeated_faults [] (globals (grammar_view grammar.now))) }
 {

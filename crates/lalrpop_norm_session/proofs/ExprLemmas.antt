@@ -37,7 +37,7 @@ pub more_of_all : (xs : List Symbol) (i : ℕ) (x : Symbol) (old new all : List 
 more_of_all xs i x old new all lt is made before =
     rw (made, append_assoc) (sym (at_drop_item (λ ys. old ++ all_parts i (parts_view ys)) xs i x lt is) ∙ before)
 
--- ---- the chosen ones, or all
+-- ---- the selected ones, or all
 
 pub map_any : {A B : Type 0} (f : A → B) (xs ys : List A) → map f (if_any xs ys) ≡ if_any (map f xs) (map f ys)
 map_any f [] ys = refl

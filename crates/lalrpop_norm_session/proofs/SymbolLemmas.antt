@@ -34,7 +34,7 @@ no_named k (part_and (at s (named n p)) ps) h = cc
 no_named k (part_and (at s (tupled ns p)) ps) h = cc
 no_named k (part_and (at s x) ps) h = no_named (suc k) ps h
 
--- a kind is chosen where there is a symbol inside of it
+-- a kind is selected where there is a symbol inside of it
 pub chosen_known : (i : ℕ) (k : Kind) → is_some (chosen_in i k) ≡ is_chosen_kind k
 chosen_known i (chosen p) = refl
 chosen_known i (group ps) = refl

@@ -1,4 +1,4 @@
--- The terminals that alternatives use, with the places where they stand and without.
+-- The terminals that alternatives use, with their spans and without.
 use Rattle.std.proofs.Common.{◌≡◌, List, [], ◌∷◌, ◌++◌, map, refl, sym, ap, ap₂, ◌∙◌}
 use Rattle.std.specs.List.{flat_map}
 use Rattle.std.proofs.lemmas.List.{map-append}
@@ -59,6 +59,6 @@ terminals_of rules =
     (λ r. flat_mapped (λ (a : AlternativeData). terminals_in_parts a.parts) (λ (a : AlternativeData). places_in_parts a.parts) (λ (u : Use). u.0)
     (λ a. terminals_are_parts a.parts) r.alternatives) rules
 
--- the terminals used are those that have places
+-- the terminals used are those that have spans
 pub terminals_are_used : (g : GrammarData) → terminals_used g ≡ map (λ (u : Use). u.0) (places_used g)
 terminals_are_used g = terminals_of (all_rules g)

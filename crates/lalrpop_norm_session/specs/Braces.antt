@@ -1,4 +1,4 @@
--- Where the placeholder of a code stands.
+-- Where the placeholder `<>` of an action code is.
 use Rattle.std.specs.Prelude.{ℕ, ◌%◌, ◌==◌, Bool, true, false, ◌&&◌, List, [], ◌∷◌, Option, Some, None}
 use Rattle.std.specs.Prelude.{option_map, count_by, drop, codes, nat_eq, if◌then◌else◌}
 use Rattle.std.specs.List.{starts_with, ends_with}
@@ -11,7 +11,7 @@ is_slot [] = false
 is_slot (a ∷ []) = false
 is_slot (a ∷ b ∷ rest) = (a == 60) && (b == 62)
 
--- what stands before the first `<>` and after it
+-- the text before the first `<>` and the text after it
 abbrev pub around_slot : List ℕ → Option (List ℕ × List ℕ)
 around_slot [] = None
 around_slot (b ∷ bs) = if is_slot (b ∷ bs) then Some ([], drop 1 bs) else option_map (λ p. (b ∷ p.0, p.1)) (around_slot bs)

@@ -9,7 +9,7 @@ use Rattle.lalrpop_norm_session.specs.declared.norm_util.Symbols.TheVariants.{Na
 use Rattle.lalrpop_norm_session.specs.declared.norm_util.AlternativeAction.{AlternativeAction}
 use Rattle.lalrpop_norm_session.specs.declared.norm_util.AlternativeAction.TheVariants.{User, Default}
 
--- a place, counted from 0, and the symbol there or inside of what stands there
+-- an index, from 0, and the symbol there or inside of the symbol there
 abbrev pub Placed : Type 0
 Placed = ℕ × Part
 
@@ -26,7 +26,7 @@ pub data ActionSeen : Type 0 where
   by_code : Action → ActionSeen
   by_symbols : SymbolsSeen → ActionSeen
 
--- a named or tuple symbol at that place
+-- a named or tuple symbol at that index
 abbrev pub named_in : ℕ → Kind → Option NamedPart
 named_in k (named n p) = Some (k, one_name n, p)
 named_in k (tupled ns p) = Some (k, several ns, p)
@@ -36,7 +36,7 @@ abbrev pub named_parts : ℕ → Parts → List NamedPart
 named_parts k no_parts = []
 named_parts k (part_and (at s x) ps) = option_to_list (named_in k x) ++ named_parts (k + 1) ps
 
--- a chosen symbol at that place
+-- a selected symbol at that index
 abbrev pub chosen_in : ℕ → Kind → Option Placed
 chosen_in k (chosen p) = Some (k, p)
 chosen_in k x = None
@@ -49,7 +49,7 @@ abbrev pub all_parts : ℕ → Parts → List Placed
 all_parts k no_parts = []
 all_parts k (part_and p ps) = (k, p) ∷ all_parts (k + 1) ps
 
--- the sources of symbols without names: what is inside of the chosen ones, if there are any, else all
+-- the sources of symbols without names: what is inside of the selected ones, if there are any, else all
 abbrev pub placed_sources : Parts → List Placed
 placed_sources ps = if_any (chosen_parts 0 ps) (all_parts 0 ps)
 

@@ -1,4 +1,4 @@
--- The terminals used, each where it stands, item by item.
+-- The terminals used, each with its span, item by item.
 use Rattle.std.specs.Prelude.{List, flat_map}
 use Rattle.lalrpop_norm_tree_names.specs.declared.names.Span.{Span}
 use Rattle.lalrpop_norm_tree_names.specs.declared.names.TerminalString.{TerminalString}
@@ -6,7 +6,7 @@ use Rattle.lalrpop_norm_tree.specs.Items.{AlternativeData, RuleData, ItemData}
 use Rattle.lalrpop_norm_model.specs.PlainRules.{rule_of_item}
 use Rattle.lalrpop_norm_model.specs.TokenFaults.{places_in_parts}
 
--- a terminal, and where it stands
+-- a terminal, and its span
 abbrev pub Use : Type 0
 Use = TerminalString × Span
 

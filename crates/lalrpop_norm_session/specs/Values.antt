@@ -2,13 +2,13 @@
 use Rattle.std.specs.Prelude.{Bool, true, false, ◌||◌}
 use Rattle.lalrpop_norm_tree.specs.Symbols.{Kind, chosen, named, tupled, Part, at, Parts, no_parts, part_and}
 
--- a name, or a tuple of names, stands before the symbol
+-- a name, or a tuple of names, is before the symbol
 abbrev pub is_naming : Kind → Bool
 is_naming (named n p) = true
 is_naming (tupled ns p) = true
 is_naming k = false
 
--- the symbol is chosen, as in `<Expr>`
+-- the symbol is selected, as in `<Expr>`
 abbrev pub is_chosen_kind : Kind → Bool
 is_chosen_kind (chosen p) = true
 is_chosen_kind _ = false

@@ -1,4 +1,4 @@
-//! What all passes share: the session, what `cfg` asks of it, how code is read, which symbols give values,
+//! What all passes share: the session, what `cfg` asks of it, how action code is read, which symbols give values,
 //! which terminals are used, and what a match block lets in.
 #![tactic(auto)]
 

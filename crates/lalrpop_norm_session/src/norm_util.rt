@@ -1,4 +1,4 @@
-//! How code is read, and which symbols give values.
+//! How action code is read, and which symbols give values.
 ghost use Rattle.std.specs.Prelude.{◌≡◌, IfOk, map, option_map};
 ghost use Rattle.lalrpop_norm_tree.specs.Items.{alternative_view};
 ghost use Rattle.lalrpop_norm_tree.specs.Symbols.{argument_pattern_view, expr_view, kind_view, parts_view, symbol_view};
@@ -12,7 +12,7 @@ use lalrpop_norm_tree::grammar::parse_tree::{
 };
 use std::alloc::Global;
 
-/// Where the first `<>` of a code stands.
+/// The position class of the first `<>` of an action code.
 #[derive(Clone, Copy, Debug, PartialEq, Eq)]
 pub enum Presence {
     /// There is none.
@@ -24,7 +24,7 @@ pub enum Presence {
 }
 
 impl Presence {
-    /// Whether it stands just between braces.
+    /// Whether it is just between braces.
     pub fn is_in_curly_brackets(self) -> bool
         ensures { result ≡ is_in_braces self }
     {
@@ -35,8 +35,8 @@ impl Presence {
     }
 }
 
-/// Where the first `<>` of a code stands. Between two texts with an odd number of `"` each it stands in a text, and
-/// so not between braces.
+/// The position class of the first `<>` of an action code. Between two texts with an odd number of `"` each, it is in a text, and
+/// not between braces.
 pub fn check_between_braces(action: &str) -> Presence
     ensures { result ≡ presence action.now }
 {
@@ -69,22 +69,22 @@ fn has_odd_quotes(text: &str) -> bool
 /// What becomes of the values of an alternative.
 #[derive(Debug, Drop)]
 pub enum AlternativeAction<'a> {
-    /// The code of the alternative gets them.
+    /// The action code of the alternative gets them.
     User(&'a ActionKind),
-    /// There is no code, and they are the value.
+    /// There is no action code, and they are the value.
     Default(Symbols<'a>),
 }
 
-/// The symbols whose values an alternative gives, each with its place among the symbols, from 0.
+/// The symbols whose values an alternative gives, each with its index among the symbols, from 0.
 #[derive(Debug, Drop)]
 pub enum Symbols<'a> {
     /// Named and tuple symbols: the names, and the symbol inside.
     Named(Vec<(usize, ArgPattern, &'a Symbol)>),
-    /// Chosen symbols, by the symbol inside; all symbols, where none is chosen.
+    /// Selected symbols, by the symbol inside; all symbols, if none is selected.
     Anon(Vec<(usize, &'a Symbol)>),
 }
 
-/// The code of an alternative, or else the symbols whose values are its value. The only error is want of memory.
+/// The action code of an alternative, or else the symbols whose values are its value. The only error is a failed allocation.
 pub fn analyze_action<'a>(
     alloc: Global,
     alternative: &'a Alternative,
@@ -100,8 +100,8 @@ pub fn analyze_action<'a>(
     }
 }
 
-/// The symbols whose values a list of symbols gives: the named and tuple symbols if any, else the chosen ones, else all. The
-/// only error is want of memory.
+/// The symbols whose values a list of symbols gives: the named and tuple symbols if any, else the selected ones, else all. The
+/// only error is a failed allocation.
 pub fn analyze_expr<'a>(alloc: Global, expr: &'a ExprSymbol) -> Result<Symbols<'a>, NoMemory>
     ensures { IfOk result (λ s. symbols_seen s ≡ analyzed_symbols (expr_view expr.now)) }
 {
@@ -113,8 +113,8 @@ pub fn analyze_expr<'a>(alloc: Global, expr: &'a ExprSymbol) -> Result<Symbols<'
     Ok(Symbols::Anon(sources))
 }
 
-/// The symbols whose values a list of symbols without names gives: those inside of the chosen ones, if there are any, else all;
-/// each with its place in the list, from 0. The only error is want of memory.
+/// The symbols whose values a list of symbols without names gives: those inside of the selected ones, if there are any, else all;
+/// each with its index in the list, from 0. The only error is a failed allocation.
 pub fn sources<'a>(
     alloc: Global,
     symbols: &'a [Symbol],
@@ -173,7 +173,7 @@ fn named_symbols<'a>(
     Ok(found)
 }
 
-/// The symbol inside of a chosen one.
+/// The symbol inside of a selected one.
 fn chosen_in<'a>(place: usize, kind: &'a SymbolKind) -> Option<(usize, &'a Symbol)>
     ensures { option_map (λ t. (t.0, symbol_view t.1.now)) result ≡ chosen_in place (kind_view kind.now) }
 {
@@ -258,14 +258,14 @@ pub fn has_name_value(symbols: &[Symbol]) -> bool
     false
 }
 
-/// Whether the symbol is chosen, as in `<Expr>`.
+/// Whether the symbol is selected, as in `<Expr>`.
 pub fn is_chosen(symbol: &Symbol) -> bool
     ensures { result ≡ is_chosen (symbol_view symbol.now) }
 {
     is_chosen_kind(&symbol.kind)
 }
 
-/// Whether a symbol of this kind is chosen.
+/// Whether a symbol of this kind is selected.
 #[tactic(auto, using(crate::proofs::SymbolLemmas::chosen_known))]
 pub fn is_chosen_kind(kind: &SymbolKind) -> bool
     ensures { result ≡ is_chosen_kind (kind_view kind.now) }
@@ -273,7 +273,7 @@ pub fn is_chosen_kind(kind: &SymbolKind) -> bool
     chosen_in(0, kind).is_some()
 }
 
-/// Whether one of the symbols is chosen.
+/// Whether one of the symbols is selected.
 pub fn has_chosen(symbols: &[Symbol]) -> bool
     ensures { result ≡ has_chosen (parts_view symbols.now) }
 {

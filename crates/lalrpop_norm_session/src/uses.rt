@@ -1,4 +1,4 @@
-//! The terminals that alternatives use, each where it stands.
+//! The terminals that alternatives use, each with its span.
 ghost use Rattle.std.specs.Prelude.{◌≡◌, [], ◌∷◌, ◌++◌, IfOk, OnOk, flat_map, map};
 ghost use Rattle.lalrpop_norm_tree.specs.Items.{alternative_view, item_view};
 ghost use Rattle.lalrpop_norm_tree.specs.Symbols.{symbol_view, kind_view, parts_view};
@@ -10,10 +10,10 @@ use lalrpop_norm_tree::grammar::parse_tree::{
 };
 use std::alloc::Global;
 
-/// A terminal, and where it stands.
+/// A terminal, and its span.
 pub type Use = (TerminalString, Span);
 
-/// The terminals that the alternatives of the rules use, in reading order. The only error is want of memory.
+/// The terminals that the alternatives of the rules use, in reading order. The only error is a failed allocation.
 pub fn uses_of(alloc: Global, items: &[GrammarItem]) -> Result<Vec<Use>, NoMemory>
     ensures { IfOk result (λ us. us.items ≡ flat_map places_in_item (map item_view items.now)) }
 {

@@ -1,4 +1,4 @@
--- The clauses of a call, and those of the same call in the grammar with levels, place by place.
+-- The clauses of a call, and those of the same call in the grammar with levels, index by index.
 use Rattle.std.proofs.Common.{◌≡◌, ℕ, List, refl, sym, ap, ◌∙◌, subst, arith}
 use Rattle.std.specs.Prelude.{slice_get, Option, Some, None, option_map}
 use Rattle.std.proofs.lemmas.Option.{slice_get-map}
@@ -37,7 +37,7 @@ module _ (M L : Meaning) (l : Name → ℕ → Name) (origin : Name → ℕ → 
       sym (slice_get-map (composed_clause origin) lower p) ∙ ap (λ (cs : List Clause). slice_get cs p) (I.calls n args)
       ∙ slice_get-map (leveled_clause l) upper p
 
-  -- the clause at the same place has the origin
+  -- the clause at the same index has the origin
   pub call_origin : (p k j : ℕ) (parts : ClosedSymbols) → slice_get upper p ≡ Some (clause (written n k) parts) →
       slice_get lower p ≡ Some (clause (written n j) (leveled_symbols l parts)) → origin n j ≡ written n k
   call_origin p k j parts at there =
@@ -45,7 +45,7 @@ module _ (M L : Meaning) (l : Name → ℕ → Name) (origin : Name → ℕ → 
       sym (ap (option_map (composed_clause origin)) there) ∙ both_at p ∙ ap (option_map (leveled_clause l)) at in
       ap origin_in both
 
-  -- down: the clause at the same place
+  -- down: the clause at the same index
   pub call_there : (p k : ℕ) (parts : ClosedSymbols) → slice_get upper p ≡ Some (clause (written n k) parts) →
       (j : ℕ) × (slice_get lower p ≡ Some (clause (written n j) (leveled_symbols l parts)))
   call_there p k parts at =
@@ -56,7 +56,7 @@ module _ (M L : Meaning) (l : Name → ℕ → Name) (origin : Name → ℕ → 
       let parts_same : other ≡ leveled_symbols l parts = ap (λ (c : Clause). c.parts) (sym is) ∙ ap (λ (c : Clause). c.parts) same in
       (j, here ∙ ap Some (is ∙ ap (λ (gs : ClosedSymbols). clause (written n j) gs) parts_same))
 
-  -- up: the clause at the same place
+  -- up: the clause at the same index
   pub call_back : (p j : ℕ) (parts : ClosedSymbols) → slice_get lower p ≡ Some (clause (written n j) parts) →
       (k : ℕ) × (mine : ClosedSymbols) × (M.call_parts n args k ≡ Some mine) × (slice_get upper p ≡ Some (clause (written n k) mine))
       × (parts ≡ leveled_symbols l mine) × (origin n j ≡ written n k)

@@ -1,4 +1,5 @@
--- The rounds of an expansion: new are the shortest chains, in the order of first meeting; where nothing is new it is whole.
+-- The rounds of an expansion: new are the shortest chains, in the order in which they are first reached; if nothing is new it is
+-- complete.
 use Rattle.std.proofs.Common.{◌≡◌, inl, inr, ℕ, zero, suc, List, [], ◌∷◌, ◌++◌, subst, arith}
 use Rattle.std.specs.Prelude.{flat_map, slice_get, Some}
 use Rattle.lalrpop_norm_theory.specs.Symbols.{ClosedSymbol, ClosedSymbols, terminal, error, reference, call, group, star, plus, question, times, wrapped, lookahead, lookbehind, no_symbols, symbol_and}
@@ -24,7 +25,7 @@ rounds_in_order M declared = (
   λ k. fresh_in_order same_symbol symbol_test _ _,
 )
 
--- what is met last is the symbol itself
+-- what is reached last is the symbol itself
 met_itself : (g h : ClosedSymbol) → BecomesRule g → In h (g ∷ []) → BecomesRule h
 met_itself g h e (inl s) = subst (λ (x : ClosedSymbol). BecomesRule x) s' e
   where
@@ -81,7 +82,7 @@ chain_expanded : (M : Meaning) (declared : List ClosedSymbol) (k : ℕ) (h : Clo
 chain_expanded M declared zero h i = let (g, there, j) = of_flat (rule_meets M) h declared i in rule_meets_expanded M g h j
 chain_expanded M declared (suc k) h (g, c, i) = rule_meets_expanded M g h i
 
--- what was seen and the symbols of the rules made are the same symbols
+-- what was seen and the symbols of the generated rules are the same symbols
 seen_made : (M : Meaning) (declared : List ClosedSymbol) (k : ℕ) (x : ClosedSymbol) → In x (expansion M declared k).seen →
     In x (expanded_symbols M declared k)
 seen_made M declared zero x i = i

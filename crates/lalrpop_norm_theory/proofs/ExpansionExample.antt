@@ -1,4 +1,4 @@
--- The premises of the whole way can be met: `pub D = "a"* @L;`, with its symbols named by their texts.
+-- The premises of the whole way can be satisfied: `pub D = "a"* @L;`, with its symbols named by their texts.
 use Rattle.std.proofs.Common.{◌≡◌, ◌<◌, inl, inr, ℕ, zero, suc, [], ◌∷◌, ◌++◌, map, refl, sym, subst, arith}
 use Rattle.std.specs.Prelude.{bytes_eq, true, false, Some}
 use Rattle.std.proofs.lemmas.Bool.{cases_Bool}

@@ -22,7 +22,7 @@ leveled_parts l c = leveled_symbols l c.parts
 pub shifted : (k j : ℕ) → k + suc j ≡ suc k + j
 shifted k j = omega arith
 
--- the alternatives of a level's rule are the clauses in their places
+-- the alternatives of a level's rule are the clauses at their indices
 numbered_clauses : (n : Name) (l : Name → ℕ → Name) (origin : Name → ℕ → Origin) (f : ℕ → Option ClosedSymbols) (k left : ℕ) (cs : List Clause) →
     length cs ≤ left → ((j : ℕ) → f (k + j) ≡ option_map (leveled_parts l) (slice_get cs j)) →
     ((j : ℕ) (c : Clause) → slice_get cs j ≡ Some c → origin n (k + j) ≡ c.origin) →

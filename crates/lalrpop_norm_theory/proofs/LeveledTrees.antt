@@ -124,7 +124,7 @@ module _ (M : Meaning) (l : Name → ℕ → Name) where
   leveled_own n k children b parts e zero = rw e refl
   leveled_own n k children b parts e (suc depth) = rw e refl
 
-  -- what stands below the own alternatives, with so many steps at most
+  -- what is below the own alternatives, with so many steps at most
   abbrev below_own : (n : Name) (k : ℕ) (children : ClosedSymbols → WrittenTrees) → ℕ → Option ℕ → WrittenTree
   below_own n k children zero b = nothing
   below_own n k children (suc d) b = step_level M l n b (M.previous n b) (λ c. tree_through_levels M l n k children d c)

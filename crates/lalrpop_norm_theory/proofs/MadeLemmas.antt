@@ -1,4 +1,4 @@
--- Each rule of an expansion is made once, and parts are met no later than the whole.
+-- Each rule of an expansion is made once, and parts are reached no later than the whole.
 use Rattle.std.proofs.Common.{◌≡◌, ◌⊎◌, ◌<◌, inl, inr, ℕ, zero, suc, List, [], ◌∷◌, ◌++◌, Bool, reverse, refl, subst, arith}
 use Rattle.std.specs.Prelude.{flat_map}
 use Rattle.std.proofs.lemmas.Bool.{cases_Bool}
@@ -88,13 +88,13 @@ rules_made_once M declared count = (
     start : List ClosedSymbol
     start = flat_map (rule_meets M) declared
 
--- what the symbol itself meets
+-- what the symbol itself reaches
 itself : (g h x : ClosedSymbol) → In h (g ∷ []) → In x (meets h) → In x (meets g)
 itself g h x (inl e) i = subst (λ (y : ClosedSymbol). In x (meets y)) e i
 itself g h x (inr j) i = absurd j
 
 mutual
-  -- what is met by what a symbol meets is met by the symbol
+  -- what is reached by what a symbol reaches is reached by the symbol
   meets_parts : (g h x : ClosedSymbol) → In h (meets g) → In x (meets h) → In x (meets g)
   meets_parts (terminal a) h x j i = absurd j
   meets_parts error h x j i = absurd j

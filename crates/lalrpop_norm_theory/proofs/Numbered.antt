@@ -1,4 +1,4 @@
--- The clauses of a rule's alternatives: the k-th alternative with parts has one place among them.
+-- The clauses of a rule's alternatives: the k-th alternative with parts has one index among them.
 use Rattle.std.proofs.Common.{◌≡◌, ℕ, zero, suc, ◌+◌, ◌<◌, List, [], ◌∷◌, refl, ap, arith, ◌++◌, ◌⊎◌, inl, inr, length}
 use Rattle.std.specs.Prelude.{slice_get, Option, Some, None}
 use Rattle.lalrpop_norm_theory.specs.Symbols.{Name, ClosedSymbols}
@@ -10,7 +10,7 @@ use Rattle.lalrpop_norm_theory.specs.Translations.{counted, lowered_place}
 abbrev pub alternative_clause : Name → ℕ → ClosedSymbols → Clause
 alternative_clause n k parts = clause (written n k) parts
 
--- what is known of the clause at place p
+-- what is known of the clause at index p
 pub record Numbered (n : Name) (f : ℕ → Option ClosedSymbols) (k left p : ℕ) (c : Clause) : Type 0 where
   pub number : ℕ
   pub parts : ClosedSymbols
@@ -56,7 +56,7 @@ numbered_sound n f k zero p c h = absurd (grind arith)
 numbered_sound n f k (suc left) p c h =
     numbered_at n f k left c (λ q i. numbered_sound n f (suc k) left q c i) p (f k) refl h
 
--- a number with parts has a clause at its place
+-- a number with parts has a clause at its index
 pub numbered_complete : (n : Name) (f : ℕ → Option ClosedSymbols) (k left j : ℕ) (parts : ClosedSymbols) →
     f (k + j) ≡ Some parts → j < left →
     slice_get (numbered n f k left) (lowered_place f k j) ≡ Some (alternative_clause n (k + j) parts)

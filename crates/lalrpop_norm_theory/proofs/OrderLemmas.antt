@@ -1,4 +1,4 @@
--- What is fresh stands in the order of first meeting.
+-- What is fresh is in the order in which it is first reached.
 use Rattle.std.proofs.Common.{◌≡◌, inl, inr, ◌<◌, ℕ, zero, suc, List, [], ◌∷◌, Bool, refl, sym, subst, arith}
 use Rattle.std.specs.Prelude.{slice_get, Some}
 use Rattle.std.proofs.lemmas.Bool.{cases_Bool}
@@ -10,17 +10,17 @@ in_at x [] p e = absurd (grind arith)
 in_at x (y ∷ xs) zero e = inl (let same : y ≡ x = cc e in sym same)
 in_at x (y ∷ xs) (suc p) e = inr (in_at x xs p e)
 
--- what is first met later than the head is first met in the rest
+-- what is first reached later than the head is first reached in the rest
 rest_first : {A : Type 0} (x y : A) (xs : List A) (i : ℕ) → IsFirstAt x (y ∷ xs) (suc i) → IsFirstAt x xs i
 rest_first x y xs i (at, none) = (at, λ j l e. none (suc j) (omega arith) e)
 
--- what differs from the head is met later
+-- what differs from the head is reached later
 met_later : {A : Type 0} (x y : A) (xs : List A) (i : ℕ) → (x ≡ y → ⊥) → IsFirstAt x (y ∷ xs) i →
     (j : ℕ) × (i ≡ suc j) × IsFirstAt x xs j
 met_later x y xs zero n (at, none) = absurd (n (let same : y ≡ x = cc at in sym same))
 met_later x y xs (suc i) n h = (i, refl, rest_first x y xs i h)
 
--- the head itself is met first
+-- the head itself is reached first
 head_first : {A : Type 0} (x : A) (xs : List A) (i : ℕ) → IsFirstAt x (x ∷ xs) i → i ≡ 0
 head_first x xs zero h = refl
 head_first x xs (suc i) (at, none) = absurd (none 0 (omega arith) refl)

@@ -1,4 +1,4 @@
--- What a pair says: each side is a tree of the symbol, and is what the translations make of the other.
+-- What a pair says: each of the corresponding trees is a tree of the symbol, and is the translation of the other.
 use Rattle.std.proofs.Common.{◌≡◌, ℕ, refl}
 use Rattle.std.specs.Prelude.{slice_get, Option, Some}
 use Rattle.std.proofs.lemmas.Option.{slice_get-map}
@@ -55,7 +55,7 @@ module _ (M : Meaning) (name : ClosedSymbol → Name) (V : HasLevels M) where
 
 module _ (M : Meaning) (name : ClosedSymbol → Name) (P : ProductionTable) (Known : ClosedSymbol → Type 0)
     (R : Realizes M name P Known) where
-  -- the production at a clause's place
+  -- the production at a clause's index
   pub production_at : (g : ClosedSymbol) → IsNonterminal g → Known g → (p : ℕ) (c : Clause) → slice_get (clauses M g) p ≡ Some c →
       slice_get (P (name g)) p ≡ Some (clause_production name c)
   production_at g n k p c h =

@@ -57,7 +57,7 @@ module _ (M : Meaning) (name : ClosedSymbol → Name) (C : HasCounts M) where
       rw same (call_pair m k (lowered_place (M.call_parts m args) 0 k) args parts ts us e (rw z at at) h)
 
 module _ (M : Meaning) (name : ClosedSymbol → Name) where
-  -- each of the trees ts pairs with the one of us at its place, as trees of x
+  -- each of the trees ts corresponds to the one of us at its index, as trees of x
   abbrev EachPairs : ClosedSymbol → WrittenTrees → LoweredTrees → Type 0
   EachPairs x no_trees no_lowered = Unit {0}
   EachPairs x (tree_and t ts) (lowered_and u us) = Pairs M name x t u × EachPairs x ts us

@@ -1,4 +1,4 @@
--- A pair's sides are what the translations make of one another; they have one word and the same alternatives.
+-- Corresponding trees are the translations of one another; they have one word and the same alternatives.
 use Rattle.std.proofs.Common.{◌≡◌, ◌≤◌, ℕ, zero, suc, ◌+◌, ◌<◌, List, [], ◌++◌, refl, sym, ap, ap₂, ◌∙◌, arith, append_assoc, append-nil}
 use Rattle.std.specs.Prelude.{slice_get, Option, Some, None, length}
 use Rattle.lalrpop_norm_theory.specs.Symbols.{Name, error_terminal, ClosedSymbol, ClosedSymbols, reference, call, group, star, plus, question, times, lookahead, lookbehind, only, replicated}
@@ -59,7 +59,7 @@ module _ (M : Meaning) (name : ClosedSymbol → Name) (P : ProductionTable) (Kno
     written_back_all (pair_and g gs t ts u us h hs) k =
         ap₂ tree_and (written_back h k.0) (written_back_all hs k.1)
 
--- the place of an alternative in its rule
+-- the index of an alternative in its rule
 pub place_is : (n : Name) (k p : ℕ) (f : ℕ → Option ClosedSymbols) (count : ℕ) (parts : ClosedSymbols) →
     slice_get (numbered n f 0 count) p ≡ Some (alternative_clause n k parts) → lowered_place f 0 k ≡ p
 place_is n k p f count parts h = children (numbered_sound n f 0 count p (alternative_clause n k parts) h)
@@ -100,7 +100,7 @@ module _ (M : Meaning) (name : ClosedSymbol → Name) where
   lowered_own n k children b parts e zero = rw e refl
   lowered_own n k children b parts e (suc depth) = rw e refl
 
-  -- what stands below the own alternatives, with so many steps at most
+  -- what is below the own alternatives, with so many steps at most
   abbrev below_own : (n : Name) (k : ℕ) (children : ClosedSymbols → LoweredTrees) → ℕ → Option ℕ → LoweredTree
   below_own n k children zero b = lowered_leaf error_terminal
   below_own n k children (suc d) b = step_node M name n b (M.previous n b) (λ c. lowered_rule M name n k children d c)

@@ -36,7 +36,7 @@ met_itself declared g h r (inl e) = subst (λ (x : ClosedSymbol). IsResolvedIn d
 met_itself declared g h r (inr i) = absurd i
 
 mutual
-  -- what a resolved symbol meets is resolved
+  -- what a resolved symbol reaches is resolved
   met_resolved : (declared : List ClosedSymbol) (g h : ClosedSymbol) → IsResolvedIn declared g → In h (meets g) → IsResolvedIn declared h
   met_resolved declared (terminal a) h r i = absurd i
   met_resolved declared error h r i = absurd i
@@ -125,7 +125,7 @@ module _ (M : Meaning) (declared : List ClosedSymbol) (D : IsResolved M declared
     | inr j ↦ clauses_met_resolved g r cs (λ p d e. f (suc p) d e) h j
   ]
 
-  -- what the rule of a resolved symbol meets is resolved
+  -- what the rule of a resolved symbol reaches is resolved
   pub rule_met_resolved : (g h : ClosedSymbol) → IsResolvedIn declared g → In h (rule_meets M g) → IsResolvedIn declared h
   rule_met_resolved g h r i = clauses_met_resolved g r (clauses M g) (λ p c e. clause_resolved g p c r e) h i
 

@@ -57,7 +57,7 @@ nested = grammar_of (symbol_and (called 65 (literal 100)) (symbol_and (called 66
 first_round : (expansion nested rule_d 0).fresh ≡ called 65 (literal 100) ∷ called 66 (literal 100) ∷ called 67 (literal 100) ∷ []
 first_round = refl
 
--- round 2 reads the rules of C, B and A, in this order; each call meets its argument's group before itself
+-- round 2 reads the rules of C, B and A, in this order; each call reaches its argument's group before itself
 second_round : (expansion nested rule_d 1).fresh ≡
     pair (literal 44) (literal 100) ∷ called 67 (pair (literal 44) (literal 100)) ∷
     pair (literal 46) (literal 100) ∷ called 66 (pair (literal 46) (literal 100)) ∷ []
@@ -81,7 +81,7 @@ third_round_is_not_empty h = cc h
 abbrev pub repeated : Meaning
 repeated = grammar_of (symbol_and (star (literal 97)) (only lookahead))
 
--- `X*` holds `X+`, which is met a round later; a lookaround is met
+-- `X*` holds `X+`, which is reached a round later; a location symbol is reached
 repeats_and_lookaround : expanded_symbols repeated rule_d 3 ≡ lookahead ∷ star (literal 97) ∷ plus (literal 97) ∷ []
 repeats_and_lookaround = refl
 
@@ -92,7 +92,7 @@ repeat_is_in_second_round = refl
 abbrev optional : Meaning
 optional = grammar_of (only (question (pair (literal 97) (wrapped chosen (literal 98)))))
 
--- the repeat is met last, so its rule stands first
+-- the repeat is reached last, so its rule is first
 repeat_is_first : expanded_symbols optional rule_d 2 ≡
     question (pair (literal 97) (wrapped chosen (literal 98))) ∷ pair (literal 97) (wrapped chosen (literal 98)) ∷ []
 repeat_is_first = refl

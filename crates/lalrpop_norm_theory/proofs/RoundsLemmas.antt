@@ -48,7 +48,7 @@ kept_met z x seen xs old new true n f g h = let r = f h in (inr r.0, r.1)
 kept_met {A} z x seen xs old new false n f g (inl e) = (inl e, λ i. n refl (subst (λ (y : A). In y seen) e i))
 kept_met z x seen xs old new false n f g (inr h) = let r = g h in (inr r.0, λ i. r.1 (inr i))
 
--- the fresh ones are those met and not seen
+-- the fresh ones are those reached and not seen
 pub fresh_met : {A : Type 0} (same : A → A → Bool) → IsTest same → (z : A) (seen xs : List A) →
     In z (fresh_of same seen xs) → In z xs × (In z seen → ⊥)
 fresh_met same T z seen [] h = absurd h
@@ -187,7 +187,7 @@ fresh_is_new {A} same T meets start k x = (there, back)
       | inr i ↦ i
     ]
 
--- where a round adds nothing, what was seen has all that its rules meet
+-- where a round adds nothing, what was seen has all that its rules reach
 pub closed : {A : Type 0} (same : A → A → Bool) → IsTest same → (meets : A → List A) (start : List A) (k : ℕ) →
     (rounds same meets start k).fresh ≡ [] → (x y : A) → In x (rounds same meets start k).seen → In y (meets x) →
     In y (rounds same meets start k).seen
@@ -231,7 +231,7 @@ fresh_append {A} same s (x ∷ xs) ys = elim (cases_Bool (is_in same x s)) [
     moved : (z : A) → is_in same z ((x ∷ s) ++ new) ≡ is_in same z (s ++ x ∷ new)
     moved z = rw (in_append same z s new, in_append same z s (x ∷ new)) (or_swap (same z x) (is_in same z s) (is_in same z new))
 
--- what is new is one of what was met
+-- what is new is one of what was reached
 pub fresh_listed : {A : Type 0} (same : A → A → Bool) (seen xs : List A) (x : A) → In x (fresh_of same seen xs) → In x xs
 fresh_listed same seen [] x h = absurd h
 fresh_listed {A} same seen (y ∷ xs) x h = by (is_in same y seen) (fresh_listed same seen xs x) (fresh_listed same (y ∷ seen) xs x) h

@@ -1,4 +1,4 @@
--- Written trees and the trees of the grammar with levels stand one to one.
+-- Written trees and the trees of the grammar with levels correspond one to one.
 use Rattle.std.proofs.Common.{◌≡◌, inl, inr, List, ℕ, suc, ◌+◌, ◌∷◌, ◌++◌, append-nil, refl, sym, ap, ap₂, ◌∙◌, subst, arith}
 use Rattle.std.specs.Prelude.{slice_get, Option, Some, None, option_map}
 use Rattle.lalrpop_norm_theory.specs.Symbols.{Name, ClosedSymbol, ClosedSymbols, terminal, error, lookahead, lookbehind, reference, call, group, star, plus, question, times, wrapped, no_symbols, symbol_and, only}

@@ -12,7 +12,7 @@ use Rattle.lalrpop_norm_theory.specs.Laws.{RulesRealize}
 use Rattle.lalrpop_norm_theory.proofs.RoundsLemmas.{in_left, in_right, in_cases}
 use Rattle.lalrpop_norm_theory.proofs.SameLemmas.{text_sound, text_same}
 
--- the rule that stands under a symbol's name is the symbol's
+-- the rule under a symbol's name is the symbol's
 named_rule : (M : Meaning) (name : ClosedSymbol → Name) (gs : List ClosedSymbol) (g : ClosedSymbol) → In g gs →
     ((h : ClosedSymbol) → In h gs → name h ≡ name g → clauses M h ≡ clauses M g) →
     table (map (rule_of_symbol M name) gs) (name g) ≡ map (clause_production name) (clauses M g)
@@ -35,7 +35,7 @@ known_listed declared met (wrapped w g) n k = absurd n
 known_listed declared met (reference m b) n k = in_left _ declared met k
 known_listed declared met _ n k = in_right _ declared met k
 
--- what the symbols meet is met, so they are known
+-- what the symbols reach is reached, so they are known
 known_from : (declared met : List ClosedSymbol) (g : ClosedSymbol) →
     ((h : ClosedSymbol) → In h (meets g) → In h met) → IsDeclaredIn declared g → IsKnown declared met g
 known_from declared met (terminal a) f r = tt

@@ -147,7 +147,7 @@ name (reference m b) = m
 name (plus x) = 43 ∷ []
 name g = []
 
--- the first element stands innermost
+-- the first element is innermost
 abbrev left_leaning_two : LoweredTree
 left_leaning_two = lowered_node (43 ∷ []) 1
     (lowered_and (lowered_node (43 ∷ []) 0 (lowered_and (lowered_leaf number) no_lowered)) (lowered_and (lowered_leaf number) no_lowered))
@@ -156,7 +156,7 @@ two_pair : Pairs grammar name (plus (terminal number)) two_numbers left_leaning_
 two_pair = plus_more_pair (terminal number) (tree_and (leaf number) no_trees) (leaf number) _ _
     (plus_one_pair (terminal number) (leaf number) (lowered_leaf number) (terminal_pair number)) (terminal_pair number)
 
--- under `"n"{2}` both stand at one node
+-- under `"n"{2}` both are at one node
 abbrev side_by_side : LoweredTree
 side_by_side = lowered_node [] 0 (lowered_and (lowered_leaf number) (lowered_and (lowered_leaf number) no_lowered))
 
@@ -175,7 +175,7 @@ two_lean_left : lowered_tree grammar name two_numbers (plus (terminal number)) �
     lowered_node (43 ∷ []) 1 (lowered_and (lowered_leaf number) (lowered_and (lowered_node (43 ∷ []) 0 (lowered_and (lowered_leaf number) no_lowered)) no_lowered)) → ⊥
 two_lean_left h = cc h
 
--- E 0 stands below a step, within the bound and without one
+-- E 0 is below a step, within the bound and without one
 abbrev lowered_number : LoweredTree
 lowered_number = lowered_node (69 ∷ 49 ∷ []) 0 (lowered_and (lowered_leaf number) no_lowered)
 

@@ -1,4 +1,4 @@
--- Written and lowered trees stand one to one, and the translations are the two ways.
+-- Written and lowered trees correspond one to one, and the translations are the two ways.
 use Rattle.std.proofs.Common.{◌≡◌, List, sym, ◌∙◌}
 use Rattle.lalrpop_norm_theory.specs.Symbols.{Name, Terminal, ClosedSymbol}
 use Rattle.lalrpop_norm_theory.specs.Meaning.{Meaning, HasCounts, HasLevels}

@@ -1,5 +1,5 @@
 -- Rounds of things that are compared by a view, as of symbols with their spans: seen through the view they are the rounds of
--- the views, and each thing is the first one met of its view.
+-- the views, and each thing is the first one reached of its view.
 use Rattle.std.proofs.Common.{◌≡◌, ℕ, zero, suc, List, [], ◌∷◌, ◌++◌, Bool, true, false, map, reverse, refl, ap, ap₂, ◌∙◌}
 use Rattle.std.specs.Prelude.{flat_map, ◌||◌, if◌then◌else◌}
 use Rattle.std.proofs.lemmas.List.{map-append}

@@ -1,4 +1,5 @@
--- The rule of a closed symbol: its clauses, each with its origin, and the productions that they become under given names.
+-- The rule of a ground symbol: its clauses (productions over ground symbols), each with its origin, and the productions that they
+-- become under given names.
 use Rattle.std.specs.Prelude.{ℕ, zero, suc, List, [], ◌∷◌, ◌++◌, Option, Some, None}
 use Rattle.lalrpop_norm_theory.specs.Symbols.{Name, error_terminal, ClosedSymbol, ClosedSymbols, terminal, error, reference, call}
 use Rattle.lalrpop_norm_theory.specs.Symbols.{group, star, plus, question, times, wrapped, lookahead, lookbehind, no_symbols}
@@ -8,7 +9,7 @@ use Rattle.lalrpop_norm_theory.specs.LoweredTrees.{Origin, LoweredSymbol, Produc
 use Rattle.lalrpop_norm_theory.specs.LoweredTrees.{written, level_step, from_group, star_empty, star_some, plus_one, plus_more}
 use Rattle.lalrpop_norm_theory.specs.LoweredTrees.{question_some, question_empty, from_times, from_lookahead, from_lookbehind}
 
--- an alternative of a rule: where it comes from, and its symbols
+-- an alternative of a rule: its origin, and its symbols
 pub record Clause : Type 0 where
   pub origin : Origin
   pub parts : ClosedSymbols
@@ -36,7 +37,7 @@ abbrev pub step_clauses : Name → Option (Option ℕ) → List Clause
 step_clauses n None = []
 step_clauses n (Some b) = clause level_step (only (reference n b)) ∷ []
 
--- The rule of a closed symbol. A terminal, `!` and a wrapped symbol have none.
+-- The rule of a ground symbol. A terminal, `!` and a wrapped symbol have none.
 abbrev pub clauses : Meaning → ClosedSymbol → List Clause
 clauses M (terminal a) = []
 clauses M error = []
@@ -51,7 +52,7 @@ clauses M (times n x) = clause from_times (replicated n x) ∷ []
 clauses M lookahead = clause from_lookahead no_symbols ∷ []
 clauses M lookbehind = clause from_lookbehind no_symbols ∷ []
 
--- the symbol that stands for a closed symbol in a production
+-- the symbol of a production that represents a ground symbol
 abbrev pub symbol_of : (ClosedSymbol → Name) → ClosedSymbol → LoweredSymbol
 symbol_of name (terminal a) = terminal_symbol a
 symbol_of name error = terminal_symbol error_terminal
@@ -67,7 +68,7 @@ symbols_of name (symbol_and g gs) = symbol_of name g ∷ symbols_of name gs
 abbrev pub clause_production : (ClosedSymbol → Name) → Clause → Production
 clause_production name c = record { origin = c.origin; symbols = symbols_of name c.parts }
 
--- the closed symbols that have a rule
+-- the ground symbols that have a rule
 abbrev pub IsNonterminal : ClosedSymbol → Type 0
 IsNonterminal (terminal a) = ⊥
 IsNonterminal error = ⊥

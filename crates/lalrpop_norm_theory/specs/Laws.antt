@@ -20,7 +20,7 @@ use Rattle.lalrpop_norm_theory.specs.Steps.{Steps, written_alternatives}
 abbrev pub ExactlyOne : {A : Type 0} → (A → Type 0) → Type 0
 ExactlyOne {A} P = (x : A) × P x × ((y : A) → P y → y ≡ x)
 
--- the written trees of g and the derivation trees of its symbol stand one to one, with the same words and alternatives
+-- the written trees of g and the derivation trees of its symbol correspond one to one, with the same words and alternatives
 pub record OneToOne (M : Meaning) (name : ClosedSymbol → Name) (P : ProductionTable) (g : ClosedSymbol) : Type 0 where
   pub down : (t : WrittenTree) → IsTreeOf M t g → ExactlyOne (λ u. IsDerivation P u (symbol_of name g) × Pairs M name g t u)
   pub up : (u : LoweredTree) → IsDerivation P u (symbol_of name g) → ExactlyOne (λ t. IsTreeOf M t g × Pairs M name g t u)
@@ -34,7 +34,7 @@ TreesAreOneToOne = (M : Meaning) → HasCounts M → HasLevels M →
     Realizes M name P (IsKnown declared met) →
     (g : ClosedSymbol) → IsKnown declared met g → OneToOne M name P g
 
--- A word has a written tree exactly where it has a lowered one.
+-- A word has a written tree if and only if it has a lowered one.
 abbrev pub WordsAreTheSame : Type 0
 WordsAreTheSame = (M : Meaning) → HasCounts M → HasLevels M →
     (name : ClosedSymbol → Name) (P : ProductionTable) (declared met : List ClosedSymbol) →
@@ -43,7 +43,7 @@ WordsAreTheSame = (M : Meaning) → HasCounts M → HasLevels M →
     ((t : WrittenTree) × IsTreeOf M t g × (yield t ≡ w))
     ↔ ((u : LoweredTree) × IsDerivation P u (symbol_of name g) × (lowered_yield u ≡ w))
 
--- the translations answer trees that pair with their arguments, and each undoes the other
+-- the translations answer the trees that correspond to their arguments, and each undoes the other
 pub record TranslationsFit (M : Meaning) (name : ClosedSymbol → Name) (P : ProductionTable) (g : ClosedSymbol) : Type 0 where
   pub forward : (t : WrittenTree) → IsTreeOf M t g →
       IsDerivation P (lowered_tree M name t g) (symbol_of name g) × Pairs M name g t (lowered_tree M name t g)
@@ -51,7 +51,7 @@ pub record TranslationsFit (M : Meaning) (name : ClosedSymbol → Name) (P : Pro
       IsTreeOf M (written_tree P u) g × Pairs M name g (written_tree P u) u
   pub back_forward : (t : WrittenTree) → IsTreeOf M t g → written_tree P (lowered_tree M name t g) ≡ t
   pub forward_back : (u : LoweredTree) → IsDerivation P u (symbol_of name g) → lowered_tree M name (written_tree P u) g ≡ u
-  -- what pairs is what the translations make of one another
+  -- corresponding trees are the translations of one another
   pub paired : (t : WrittenTree) (u : LoweredTree) → Pairs M name g t u →
       (lowered_tree M name t g ≡ u) × (written_tree P u ≡ t)
 
@@ -62,13 +62,13 @@ TranslationsAreInverse = (M : Meaning) → HasCounts M → HasLevels M →
     Realizes M name P (IsKnown declared met) →
     (g : ClosedSymbol) → IsKnown declared met g → TranslationsFit M name P g
 
--- The list of rules of an expansion that stands is a lowered grammar that realizes its symbols, and the roots.
+-- The list of rules of a complete expansion is a lowered grammar that realizes its symbols, and the roots.
 abbrev pub RulesRealize : Type 0
 RulesRealize =
     (M : Meaning) (name : ClosedSymbol → Name) (roots declared met : List ClosedSymbol) → Stands M name roots declared met →
     Realizes M name (table (map (rule_of_symbol M name) (declared ++ met))) (IsKnown (roots ++ declared) met)
 
--- the written trees of g and the trees of the grammar with levels stand one to one, with the same words and alternatives
+-- the written trees of g and the trees of the grammar with levels correspond one to one, with the same words and alternatives
 pub record StepsAreOneToOne (M L : Meaning) (l : Name → ℕ → Name) (origin : Name → ℕ →
     Origin) (g : ClosedSymbol) : Type 0 where
   pub down : (t : WrittenTree) → IsTreeOf M t g → ExactlyOne (λ m. IsTreeOf L m (leveled_symbol l g) × Steps M L l g t m)
@@ -76,7 +76,7 @@ pub record StepsAreOneToOne (M L : Meaning) (l : Name → ℕ → Name) (origin 
   pub same_yields : (t m : WrittenTree) → Steps M L l g t m → yield t ≡ yield m
   pub same_alternatives : (t m : WrittenTree) → Steps M L l g t m → alternatives t ≡ written_alternatives origin m
 
--- a closed symbol under the name that its symbol has in the grammar with levels
+-- a ground symbol under the name that its symbol has in the grammar with levels
 abbrev pub level_named : (Name → ℕ → Name) → (ClosedSymbol → Name) → ClosedSymbol → Name
 level_named l name g = name (leveled_symbol l g)
 
@@ -108,23 +108,23 @@ abbrev pub RoundsAreShortestChains : Type 0
 RoundsAreShortestChains = (M : Meaning) (declared : List ClosedSymbol) (k : ℕ) (x : ClosedSymbol) →
     In x (expansion M declared k).fresh ↔ NewIn (rule_meets M) (flat_map (rule_meets M) declared) k x
 
--- What is new in a round stands in the order of first meeting: round 1 meets what the declared symbols' rules meet, a later
--- round what the rules meet that the one before made, these read in the reverse order of first meeting.
+-- What is new in a round is in the order in which it is first reached. Round 1 reaches what the declared symbols' rules reach. A
+-- later round reaches what the rules reach that the round before generated; it reads them in the reverse order.
 abbrev pub RoundsAreInOrder : Type 0
 RoundsAreInOrder = (M : Meaning) (declared : List ClosedSymbol) →
     IsInOrderOf (expansion M declared 0).fresh (flat_map (rule_meets M) declared)
     × ((k : ℕ) → IsInOrderOf (expansion M declared (suc k)).fresh
     (flat_map (rule_meets M) (reverse (expansion M declared k).fresh)))
 
--- Exactly one rule is made of each symbol that is new in some round, and none of any other.
+-- Exactly one rule is generated for each symbol that is new in some round, and none of any other.
 abbrev pub RulesAreMadeOnce : Type 0
 RulesAreMadeOnce = (M : Meaning) (declared : List ClosedSymbol) (count : ℕ) →
     IsDistinct (expanded_symbols M declared count)
     × ((x : ClosedSymbol) → In x (expanded_symbols M declared count)
     ↔ ((k : ℕ) × (k < count) × NewIn (rule_meets M) (flat_map (rule_meets M) declared) k x))
 
--- What a symbol meets has a chain wherever the symbol itself has one: so an argument put into the body of a macro meets
--- nothing there that the call did not meet.
+-- What a symbol reaches has a chain wherever the symbol itself has one: an argument substituted into the body of a macro reaches
+-- nothing there that the call did not reach.
 abbrev pub PartsAreMetNoLater : Type 0
 PartsAreMetNoLater = (M : Meaning) (declared : List ClosedSymbol) (k : ℕ) (g h : ClosedSymbol) →
     Chain (rule_meets M) (flat_map (rule_meets M) declared) k g → In h (meets g) →
@@ -132,19 +132,20 @@ PartsAreMetNoLater = (M : Meaning) (declared : List ClosedSymbol) (k : ℕ) (g h
 
 -- an expansion in which round k + 1 adds nothing
 pub record IsWhole (M : Meaning) (declared met : List ClosedSymbol) : Type 0 where
-  -- what a rule meets is met
+  -- what a rule reaches is reached
   pub done : (g h : ClosedSymbol) → In g (declared ++ met) → In h (rule_meets M g) → In h met
-  -- only what an expansion makes a rule of is met
+  -- only what an expansion desugars is reached
   pub expanded : (g : ClosedSymbol) → In g met → BecomesRule g
-  -- all that is met was met by a chain
+  -- all that is reached is reached by a chain
   pub reached : (g : ClosedSymbol) → In g met → (k : ℕ) × Chain (rule_meets M) (flat_map (rule_meets M) declared) k g
 
--- Where round k + 1 adds nothing, the symbols of the rules made so far are whole.
+-- If round k + 1 adds nothing, the symbols of the generated rules so far are complete.
 abbrev pub NothingNewIsWhole : Type 0
 NothingNewIsWhole = (M : Meaning) (declared : List ClosedSymbol) (k : ℕ) → (expansion M declared k).fresh ≡ [] →
     IsWhole M declared (expanded_symbols M declared k)
 
--- Where a resolved expansion has nothing new and each name means one rule, its rules stand, in the order in which they are made.
+-- If a resolved expansion has nothing new and each name means one rule, its rules are complete, in the order in which they are
+-- generated.
 abbrev pub ExpansionsStand : Type 0
 ExpansionsStand = (M : Meaning) → HasLevels M → (declared : List ClosedSymbol) → IsResolved M declared →
     ((g : ClosedSymbol) → In g declared → IsResolvedIn declared g) →
@@ -153,8 +154,8 @@ ExpansionsStand = (M : Meaning) → HasLevels M → (declared : List ClosedSymbo
     (roots : List ClosedSymbol) → ((g : ClosedSymbol) → In g roots → SharesRule M name declared g) →
     Stands M name roots declared (expanded_symbols M declared k)
 
--- The whole way: where an expansion of a resolved grammar has nothing new and each name means one rule, the trees of each
--- known symbol and of each root are one to one with those of the rules made.
+-- End to end: where an expansion of a resolved grammar has nothing new and each name means one rule, the trees of each
+-- known symbol and of each root are one to one with those of the generated rules.
 abbrev pub ExpansionsAreOneToOne : Type 0
 ExpansionsAreOneToOne =
     (M : Meaning) → HasCounts M → HasLevels M → (declared : List ClosedSymbol) → IsResolved M declared →
@@ -165,6 +166,6 @@ ExpansionsAreOneToOne =
     (g : ClosedSymbol) → IsKnown (roots ++ declared) (expanded_symbols M declared k) g →
     OneToOne M name (table (map (rule_of_symbol M name) (declared ++ expanded_symbols M declared k))) g
 
--- Two closed symbols pass the test of sameness exactly where they are equal.
+-- Two ground symbols pass the test of sameness if and only if they are equal.
 abbrev pub SameIsEqual : Type 0
 SameIsEqual = IsTest same_symbol

@@ -1,4 +1,4 @@
--- The grammar with levels, where each level of a rule is a rule of its own: its symbols, and how it stands to the written one.
+-- The grammar with levels, where each level of a rule is a rule of its own: its symbols, and its relation to the written one.
 use Rattle.std.specs.Prelude.{◌≡◌, ℕ, List, map, slice_get, Option, Some, None, option_map}
 use Rattle.lalrpop_norm_theory.specs.Symbols.{Name, ClosedSymbol, ClosedSymbols, terminal, error, reference, call, group, star}
 use Rattle.lalrpop_norm_theory.specs.Symbols.{plus, question, times, wrapped, lookahead, lookbehind, no_symbols, symbol_and}
@@ -44,7 +44,7 @@ composed_clause origin c = clause (composed origin c.origin) c.parts
 abbrev pub leveled_clause : (Name → ℕ → Name) → Clause → Clause
 leveled_clause l c = clause c.origin (leveled_symbols l c.parts)
 
--- L is the grammar with levels of M: place p of the rule of a declared level is its p-th clause, no rule has levels, a call has
+-- L is the grammar with levels of M: index p of the rule of a declared level has its p-th clause, no rule has levels, a call has
 -- the same clauses in their order, and each alternative has its origin in M.
 pub record IsLeveled (M L : Meaning) (l : Name → ℕ → Name) (origin : Name → ℕ →
     Origin) (declared : List ClosedSymbol) : Type 0 where

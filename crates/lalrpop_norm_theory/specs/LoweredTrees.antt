@@ -7,8 +7,8 @@ pub data LoweredSymbol : Type 0 where
   terminal_symbol : Terminal → LoweredSymbol
   nonterminal_symbol : Name → LoweredSymbol
 
--- Where a production comes from: a start symbol; an alternative of a rule or macro, by the number of its written place; the
--- step from a level to the one below; a group; a clause of a repeat; a lookaround.
+-- Where a production comes from: a start symbol; an alternative of a rule or macro, by its written index; the step from a level
+-- to the one below; a group; a production of a repeat; a location symbol.
 pub data Origin : Type 0 where
   from_start : Origin
   written : Name → ℕ → Origin
@@ -16,7 +16,7 @@ pub data Origin : Type 0 where
   star_empty star_some plus_one plus_more question_some question_empty from_times : Origin
   from_lookahead from_lookbehind : Origin
 
--- a production: where it comes from, and its symbols
+-- a production: its origin, and its symbols
 pub record Production : Type 0 where
   pub origin : Origin
   pub symbols : List LoweredSymbol
@@ -25,7 +25,7 @@ pub record Production : Type 0 where
 abbrev pub ProductionTable : Type 0
 ProductionTable = Name → List Production
 
--- a leaf, or a node: a nonterminal, the place of one of its productions, and its children
+-- a leaf, or a node: a nonterminal, the index of one of its productions, and its children
 mutual
   pub data LoweredTree : Type 0 where
     lowered_leaf : Terminal → LoweredTree
@@ -35,7 +35,7 @@ mutual
     no_lowered : LoweredTrees
     lowered_and : LoweredTree → LoweredTrees → LoweredTrees
 
--- the derivation trees of a symbol: at each node the production stands, and each child is a tree of its symbol
+-- the derivation trees of a symbol: at each node is the production, and each child is a tree of its symbol
 abbrev mutual
   pub IsDerivation : ProductionTable → LoweredTree → LoweredSymbol → Type 0
   IsDerivation P (lowered_leaf a) s = s ≡ terminal_symbol a
@@ -63,7 +63,7 @@ abbrev pub written_of : Origin → List (Name × ℕ)
 written_of (written n k) = (n, k) ∷ []
 written_of _ = []
 
--- the same of a production, if there is one
+-- that of a production, if there is one
 abbrev pub written_at : Option Production → List (Name × ℕ)
 written_at None = []
 written_at (Some q) = written_of q.origin

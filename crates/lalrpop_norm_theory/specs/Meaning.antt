@@ -2,7 +2,7 @@
 use Rattle.std.specs.Prelude.{◌≡◌, ◌⊎◌, ◌<◌, ℕ, Option, Some, None}
 use Rattle.lalrpop_norm_theory.specs.Symbols.{Name, ClosedSymbols}
 
--- An alternative has the number of its written place, from 0, and parts: one closed symbol for each of its symbols. An
+-- An alternative has its written index, from 0, and parts: one ground symbol for each of its symbols. An
 -- alternative that is not there, is disabled, lies above the bound or has a false condition has no parts.
 pub record Meaning : Type 0 where
   -- the parts of an alternative of a nonterminal within a bound, and how many numbers it has
@@ -14,7 +14,7 @@ pub record Meaning : Type 0 where
   pub previous : Name → Option ℕ → Option (Option ℕ)
   -- a number that falls from level to level
   pub depth : Name → Option ℕ → ℕ
-  -- the parts of an alternative of a macro, its arguments bound to closed symbols, and how many numbers it has
+  -- the parts of an alternative of a macro, its arguments bound to ground symbols, and how many numbers it has
   pub call_parts : Name → ClosedSymbols → ℕ → Option ClosedSymbols
   pub call_count : Name → ℕ
 

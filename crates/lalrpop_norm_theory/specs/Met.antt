@@ -1,4 +1,4 @@
--- What rules meet, and which symbols are known once nothing new is met.
+-- What rules reach (`met`), and which symbols are known once nothing new is reached.
 use Rattle.std.specs.Prelude.{◌≡◌, ℕ, Option, Some, List, [], ◌∷◌, ◌++◌, flat_map}
 use Rattle.lalrpop_norm_theory.specs.Symbols.{Name, ClosedSymbol, ClosedSymbols, terminal, error, reference, call, group, star}
 use Rattle.lalrpop_norm_theory.specs.Symbols.{plus, question, times, wrapped, lookahead, lookbehind, no_symbols, symbol_and}
@@ -7,8 +7,8 @@ use Rattle.lalrpop_norm_theory.specs.Clauses.{Clause, clauses}
 use Rattle.lalrpop_norm_theory.specs.Rounds.{In, Round, rounds, all_rules_made}
 use Rattle.lalrpop_norm_theory.specs.Same.{same_symbol}
 
--- A call, group or repeat meets what its parts meet, then itself; a wrapped symbol what its inner symbol meets; a
--- lookaround itself; all else nothing.
+-- A call, group or repeat reaches what its parts reach, then itself; a wrapped symbol what its inner symbol reaches; a location
+-- symbol itself; all else nothing.
 abbrev mutual
   pub meets : ClosedSymbol → List ClosedSymbol
   meets (terminal a) = []
@@ -28,11 +28,11 @@ abbrev mutual
   meets_all no_symbols = []
   meets_all (symbol_and g gs) = meets g ++ meets_all gs
 
--- what clauses meet, in their order
+-- what clauses reach, in their order
 abbrev pub clauses_meet : List Clause → List ClosedSymbol
 clauses_meet cs = flat_map (λ (c : Clause). meets_all c.parts) cs
 
--- what the rule of a symbol meets
+-- what the rule of a symbol reaches
 abbrev pub rule_meets : Meaning → ClosedSymbol → List ClosedSymbol
 rule_meets M g = clauses_meet (clauses M g)
 
@@ -40,11 +40,11 @@ rule_meets M g = clauses_meet (clauses M g)
 abbrev pub expansion : Meaning → List ClosedSymbol → ℕ → Round ClosedSymbol
 expansion M declared k = rounds same_symbol (rule_meets M) (flat_map (rule_meets M) declared) k
 
--- the symbols of the rules made in the first `count` rounds, in the order in which the rules stand
+-- the symbols of the generated rules in the first `count` rounds, in the order of the rules
 abbrev pub expanded_symbols : Meaning → List ClosedSymbol → ℕ → List ClosedSymbol
 expanded_symbols M declared count = all_rules_made same_symbol (rule_meets M) (flat_map (rule_meets M) declared) count
 
--- a symbol that an expansion makes a rule of
+-- a symbol that an expansion desugars
 abbrev pub BecomesRule : ClosedSymbol → Type 0
 BecomesRule (terminal a) = ⊥
 BecomesRule error = ⊥
@@ -52,7 +52,7 @@ BecomesRule (reference n b) = ⊥
 BecomesRule (wrapped w g) = ⊥
 BecomesRule _ = Unit {0}
 
--- A symbol is known, wrappers aside: a terminal, a declared reference, or met.
+-- A symbol is known, wrappers aside: a terminal, a declared reference, or reached.
 abbrev pub IsKnown : List ClosedSymbol → List ClosedSymbol → ClosedSymbol → Type 0
 IsKnown declared met (terminal a) = Unit {0}
 IsKnown declared met error = Unit {0}
@@ -66,7 +66,7 @@ IsDeclaredIn declared (reference n b) = In (reference n b) declared
 IsDeclaredIn declared (wrapped w g) = IsDeclaredIn declared g
 IsDeclaredIn declared _ = Unit {0}
 
--- the same of each of several symbols
+-- the references in several symbols, wrappers aside, are declared
 abbrev pub AreDeclaredIn : List ClosedSymbol → ClosedSymbols → Type 0
 AreDeclaredIn declared no_symbols = Unit {0}
 AreDeclaredIn declared (symbol_and g gs) = IsDeclaredIn declared g × AreDeclaredIn declared gs
@@ -91,7 +91,7 @@ abbrev mutual
   AreResolvedIn declared no_symbols = Unit {0}
   AreResolvedIn declared (symbol_and g gs) = IsResolvedIn declared g × AreResolvedIn declared gs
 
--- The declared references are closed: their alternatives refer to declared ones alone, the level below each is declared, and
+-- The declared references are closed: their alternatives refer only to declared ones, the level below each is declared, and
 -- a macro called by resolved arguments has resolved alternatives.
 pub record IsResolved (M : Meaning) (declared : List ClosedSymbol) : Type 0 where
   pub rules : (n : Name) (b : Option ℕ) (k : ℕ) (parts : ClosedSymbols) → In (reference n b) declared →

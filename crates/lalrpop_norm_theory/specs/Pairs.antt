@@ -1,4 +1,4 @@
--- The pairing of written and lowered trees of a closed symbol, a constructor for each case.
+-- The pairing of written and lowered trees of a ground symbol: which trees correspond. It has a constructor for each case.
 use Rattle.std.specs.Prelude.{◌≡◌, ℕ, slice_get, Option, Some}
 use Rattle.lalrpop_norm_theory.specs.Symbols.{Name, Terminal, error_terminal, Wrapper, ClosedSymbol, ClosedSymbols, terminal}
 use Rattle.lalrpop_norm_theory.specs.Symbols.{error, reference, call, group, star, plus, question, times, wrapped, lookahead}
@@ -10,11 +10,11 @@ use Rattle.lalrpop_norm_theory.specs.LoweredTrees.{LoweredTree, LoweredTrees, lo
 use Rattle.lalrpop_norm_theory.specs.LoweredTrees.{written, level_step}
 use Rattle.lalrpop_norm_theory.specs.Clauses.{clauses, clause}
 
--- Pairs M name g t u: the written tree t of g and the lowered tree u are one, nonterminals having the names given.
--- - A node of a rule stands at the production of its alternative (rule_pair), below a step for each level that the bound
+-- Pairs M name g t u: the written tree t of g and the lowered tree u correspond, where nonterminals have the names `name`.
+-- - A node of a rule has the production of its alternative (rule_pair), below a step for each level that the bound
 --   lies above it (step_pair).
--- - A list under `X+` stands as a tree that leans to the left, its last element outermost (plus_one_pair, plus_more_pair).
--- - A list under `X{n}` stands at its one production, a child for each element, in order (times_pair).
+-- - A list under `X+` is a tree that leans to the left, its last element outermost (plus_one_pair, plus_more_pair).
+-- - A list under `X{n}` has its one production, a child for each element, in order (times_pair).
 mutual
   pub data Pairs (M : Meaning) (name : ClosedSymbol → Name) : ClosedSymbol → WrittenTree → LoweredTree → Type 0 where
     terminal_pair : (a : Terminal) → Pairs M name (terminal a) (leaf a) (lowered_leaf a)
@@ -56,7 +56,7 @@ mutual
     times_pair : (n : ℕ) (x : ClosedSymbol) (ts : WrittenTrees) (us : LoweredTrees) → AllPairs M name (replicated n x) ts us →
         Pairs M name (times n x) (list ts) (lowered_node (name (times n x)) 0 us)
 
-  -- the trees pair one by one
+  -- the trees correspond one by one
   pub data AllPairs (M : Meaning) (name : ClosedSymbol → Name) : ClosedSymbols → WrittenTrees →
       LoweredTrees → Type 0 where
     no_pairs : AllPairs M name no_symbols no_trees no_lowered

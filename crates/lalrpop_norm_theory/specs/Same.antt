@@ -1,4 +1,4 @@
--- The test whether two closed symbols are the same, by cases on their shape.
+-- The test whether two ground symbols are equal (`same`), by cases on their shape.
 use Rattle.std.specs.Prelude.{ℕ, Bool, true, false, not, nat_eq, bytes_eq, ◌&&◌, Option, Some, None}
 use Rattle.lalrpop_norm_theory.specs.Symbols.{Terminal, quoted, regex, bare, error_terminal, ClosedPattern, ClosedPatterns}
 use Rattle.lalrpop_norm_theory.specs.Symbols.{name_pattern, tuple_pattern, no_patterns, pattern_and, Wrapper, chosen, named}

@@ -11,8 +11,8 @@ use Rattle.lalrpop_norm_theory.specs.Clauses.{Clause, clause, clauses, own_claus
 use Rattle.lalrpop_norm_theory.specs.Translations.{made_by, lowered_place}
 use Rattle.lalrpop_norm_theory.specs.Leveled.{level_reference, leveled_symbols}
 
--- Steps M L l g t m: the written tree t of g and the tree m of the grammar with levels, L, are one. A node of a rule has the
--- place of its clause in its level's rule, below a step for each level that the bound lies above it. A node of a macro has the
+-- Steps M L l g t m: the written tree t of g and the tree m of the grammar with levels, L, correspond. A node of a rule has the
+-- index of its clause in its level's rule, below a step for each level that the bound lies above it. A node of a macro has the
 -- number that its clause has in the same call there; all else is kept.
 mutual
   pub data Steps (M L : Meaning) (l : Name → ℕ → Name) : ClosedSymbol → WrittenTree → WrittenTree → Type 0 where
@@ -93,7 +93,7 @@ abbrev pub step_level : Meaning → (Name → ℕ → Name) → Name → Option 
 step_level M l n b None below = nothing
 step_level M l n b (Some c) below = node (level_reference l n b) (length (own_clauses M n b)) (tree_and (below c) no_trees)
 
--- own alternatives first, else a step, as often as there are levels
+-- the level's own alternatives first, else a step, as often as there are levels
 abbrev pub tree_through_levels : Meaning → (Name → ℕ → Name) → Name → ℕ → (ClosedSymbols → WrittenTrees) →
     ℕ → Option ℕ → WrittenTree
 tree_through_levels M l n k children zero b = own_level M l n k children b (M.own_parts n b k) nothing
@@ -110,7 +110,7 @@ abbrev pub clause_number : Option Clause → ℕ
 clause_number None = 0
 clause_number (Some c) = origin_number c.origin
 
--- the tree in the grammar with levels of a written tree of a closed symbol
+-- the tree in the grammar with levels of a written tree of a ground symbol
 abbrev mutual
   pub leveled_tree : Meaning → Meaning → (Name → ℕ → Name) → WrittenTree → ClosedSymbol → WrittenTree
   leveled_tree M L l t (wrapped w g) = leveled_tree M L l t g

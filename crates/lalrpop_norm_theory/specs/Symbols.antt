@@ -1,5 +1,5 @@
--- Closed symbols: what a written symbol is once the arguments of its macro are substituted and each of its references has a
--- bound. Spans are no part of them, so two closed symbols are the same exactly where they are equal.
+-- Ground symbols: what a written symbol is once the arguments of its macro are substituted and each of its references has a
+-- bound. Spans are no part of them: two ground symbols are the same if and only if they are equal.
 use Rattle.std.specs.Prelude.{ℕ, zero, suc, Bool, List, Option}
 
 -- a text, by its bytes
@@ -21,13 +21,13 @@ mutual
     no_patterns : ClosedPatterns
     pattern_and : ClosedPattern → ClosedPatterns → ClosedPatterns
 
--- what stands around a symbol and adds nothing to its trees: `<X>`, `<x:X>` or `<mut x:X>`, `<(x, y):X>`
+-- what is around a symbol and adds nothing to its trees: `<X>`, `<x:X>` or `<mut x:X>`, `<(x, y):X>`
 pub data Wrapper : Type 0 where
   chosen : Wrapper
   named : Bool → Name → Wrapper
   tuple : ClosedPatterns → Wrapper
 
--- A closed symbol. A reference names a nonterminal and has, as its bound, a level's number. One without a bound is that
+-- A ground symbol. A reference names a nonterminal and has, as its bound, a level's number. One without a bound is that
 -- of a rule without levels, or of a rule taken by itself. `!` is a symbol of its own, and no terminal.
 mutual
   pub data ClosedSymbol : Type 0 where
@@ -45,11 +45,11 @@ mutual
     no_symbols : ClosedSymbols
     symbol_and : ClosedSymbol → ClosedSymbols → ClosedSymbols
 
--- one symbol alone
+-- a single symbol
 abbrev pub only : ClosedSymbol → ClosedSymbols
 only g = symbol_and g no_symbols
 
--- one symbol so many times
+-- one symbol, repeated a number of times
 abbrev pub replicated : ℕ → ClosedSymbol → ClosedSymbols
 replicated zero g = no_symbols
 replicated (suc n) g = symbol_and g (replicated n g)

@@ -1,4 +1,4 @@
--- Names by text: what a lowered grammar and its names must meet to be that of the known symbols.
+-- Names by text: what a lowered grammar and its names must satisfy to be that of the known symbols.
 use Rattle.std.specs.Prelude.{◌≡◌, ℕ, List, [], ◌∷◌, ◌++◌, map, bytes_eq, if◌then◌else◌, slice_get, Some}
 use Rattle.lalrpop_norm_theory.specs.Symbols.{Name, Wrapper, ClosedSymbol, ClosedSymbols, wrapped, no_symbols, symbol_and}
 use Rattle.lalrpop_norm_theory.specs.Meaning.{Meaning}
@@ -32,7 +32,7 @@ abbrev pub table : List Rule → ProductionTable
 table [] n = []
 table (r ∷ rs) n = if bytes_eq r.name n then r.productions else table rs n
 
--- the rule of a closed symbol under its name
+-- the rule of a ground symbol under its name
 abbrev pub rule_of_symbol : Meaning → (ClosedSymbol → Name) → ClosedSymbol → Rule
 rule_of_symbol M name g = record { name = name g; productions = map (clause_production name) (clauses M g) }
 
@@ -44,7 +44,8 @@ OneRuleAName M name gs = (g h : ClosedSymbol) → In g gs → In h gs → name g
 abbrev pub SharesRule : Meaning → (ClosedSymbol → Name) → List ClosedSymbol → ClosedSymbol → Type 0
 SharesRule M name declared g = (h : ClosedSymbol) × In h declared × (name g ≡ name h) × (clauses M g ≡ clauses M h)
 
--- The declared and the met symbols are a whole expansion in which each name means one rule, and roots share declared rules.
+-- The declared and the reached symbols are a complete expansion in which each name means one rule, and roots share declared
+-- rules.
 pub record Stands (M : Meaning) (name : ClosedSymbol → Name) (roots declared met : List ClosedSymbol) : Type 0 where
   pub distinct : OneRuleAName M name (declared ++ met)
   pub shared : (g : ClosedSymbol) → In g roots → SharesRule M name declared g
@@ -52,5 +53,5 @@ pub record Stands (M : Meaning) (name : ClosedSymbol → Name) (roots declared m
   pub resolved : (g : ClosedSymbol) → In g (declared ++ met) → (p : ℕ) (c : Clause) →
       slice_get (clauses M g) p ≡ Some c →
       AreDeclaredIn declared c.parts
-  -- what a rule meets is met
+  -- what a rule reaches is reached
   pub done : (g h : ClosedSymbol) → In g (declared ++ met) → In h (rule_meets M g) → In h met

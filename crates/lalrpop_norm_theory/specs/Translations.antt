@@ -1,4 +1,4 @@
--- The two translations as functions: forward, by the written tree and its symbol; back, by the origins alone.
+-- The two translations as functions: forward, by the written tree and its symbol; back, by the origins only.
 use Rattle.std.specs.Prelude.{ℕ, zero, suc, slice_get, Option, Some, None, unwrap_or, length}
 use Rattle.lalrpop_norm_theory.specs.Symbols.{Name, error_terminal, ClosedSymbol, ClosedSymbols, terminal, error, reference, call}
 use Rattle.lalrpop_norm_theory.specs.Symbols.{group, star, plus, question, times, wrapped, lookahead, lookbehind, no_symbols}
@@ -27,7 +27,7 @@ abbrev pub elements : WrittenTree → WrittenTrees
 elements (list ts) = ts
 elements _ = no_trees
 
--- what an origin makes of the children's trees: a start symbol and a step stand for their child, `plus_more` puts its second
+-- what an origin makes of the children's trees: a start symbol and a step become their child, `plus_more` puts its second
 -- child at the end of its first one's list
 abbrev pub made_by : Origin → WrittenTrees → WrittenTree
 made_by from_start ts = first_tree ts
@@ -44,7 +44,7 @@ made_by from_times ts = list ts
 made_by from_lookahead ts = nothing
 made_by from_lookbehind ts = nothing
 
--- the same of a production, if there is one
+-- that of a production, if there is one
 abbrev pub made_at : Option Production → WrittenTrees → WrittenTree
 made_at None ts = nothing
 made_at (Some q) ts = made_by q.origin ts
@@ -64,7 +64,7 @@ abbrev pub counted : Option ClosedSymbols → ℕ → ℕ
 counted None rest = rest
 counted (Some parts) rest = suc rest
 
--- how many of the numbers from k on, `number` of them, have parts: the place of the clause of alternative k + number
+-- how many of the numbers from k on, `number` of them, have parts: the index of the clause of alternative k + number
 abbrev pub lowered_place : (ℕ → Option ClosedSymbols) → ℕ → ℕ → ℕ
 lowered_place f k zero = 0
 lowered_place f k (suc number) = counted (f k) (lowered_place f (suc k) number)
@@ -83,7 +83,7 @@ step_node M name n b None below = lowered_leaf error_terminal
 step_node M name n b (Some c) below =
     lowered_node (name (reference n b)) (length (own_clauses M n b)) (lowered_and (below c) no_lowered)
 
--- own alternatives first, else a step, as often as there are levels
+-- the level's own alternatives first, else a step, as often as there are levels
 abbrev pub lowered_rule : Meaning → (ClosedSymbol → Name) → Name → ℕ → (ClosedSymbols → LoweredTrees) → ℕ →
     Option ℕ → LoweredTree
 lowered_rule M name n k children zero b = own_node M name n k children b (M.own_parts n b k) (lowered_leaf error_terminal)
@@ -101,7 +101,7 @@ abbrev pub lowered_question : (ClosedSymbol → Name) → ClosedSymbol → Lower
 lowered_question name x no_lowered = lowered_node (name (question x)) 1 no_lowered
 lowered_question name x (lowered_and u us) = lowered_node (name (question x)) 0 (lowered_and u us)
 
--- the tree before with the trees us put on, the last outermost
+-- the tree before with the trees us added, the last outermost
 abbrev pub extended : (ClosedSymbol → Name) → ClosedSymbol → LoweredTree → LoweredTrees → LoweredTree
 extended name x before no_lowered = before
 extended name x before (lowered_and u us) =
@@ -112,7 +112,7 @@ abbrev pub left_leaning : (ClosedSymbol → Name) → ClosedSymbol → LoweredTr
 left_leaning name x no_lowered = lowered_leaf error_terminal
 left_leaning name x (lowered_and u us) = extended name x (lowered_node (name (plus x)) 0 (lowered_and u no_lowered)) us
 
--- The lowered tree of a written tree of a closed symbol. Where the tree is none of the symbol's, it has no meaning.
+-- The lowered tree of a written tree of a ground symbol. If the tree is none of the symbol's, it has no meaning.
 abbrev mutual
   pub lowered_tree : Meaning → (ClosedSymbol → Name) → WrittenTree → ClosedSymbol → LoweredTree
   lowered_tree M name t (wrapped w g) = lowered_tree M name t g

@@ -1,4 +1,4 @@
--- Written trees, and which of them are trees of a closed symbol.
+-- Written trees, and which of them are trees of a ground symbol.
 use Rattle.std.specs.Prelude.{◌≡◌, ℕ, suc, List, [], ◌∷◌, ◌++◌, Some}
 use Rattle.lalrpop_norm_theory.specs.Symbols.{Name, Terminal, error_terminal, ClosedSymbol, ClosedSymbols, terminal, error}
 use Rattle.lalrpop_norm_theory.specs.Symbols.{reference, call, group, star, plus, question, times, wrapped, lookahead}
@@ -34,7 +34,7 @@ abbrev pub tree_count : WrittenTrees → ℕ
 tree_count no_trees = 0
 tree_count (tree_and t ts) = suc (tree_count ts)
 
--- The trees of a closed symbol, case by case: the first line takes the wrappers away, the last says that there are no others.
+-- The trees of a ground symbol, case by case: the first line takes the wrappers away, the last says that there are no others.
 abbrev mutual
   pub IsTreeOf : Meaning → WrittenTree → ClosedSymbol → Type 0
   IsTreeOf M t (wrapped w g) = IsTreeOf M t g

@@ -1,4 +1,4 @@
-//! The rules of macro calls: those alternatives of the macro whose conditions hold, in which the macro's names stand for the arguments.
+//! The rules of macro calls: those alternatives of the macro whose conditions hold, in the environment of the arguments.
 ghost use Rattle.std.specs.Prelude.{◌≡◌, ◌++◌, OnOk, map, flat_map};
 ghost use Rattle.lalrpop_norm_tree.specs.Symbols.{parts_view};
 ghost use Rattle.lalrpop_norm_tree.specs.Items.{AlternativeData, alternative_view, rule_view};
@@ -24,7 +24,7 @@ use lalrpop_norm_tree::grammar::parse_tree::{
 use lalrpop_norm_tree_parts::attribute::copy::copy_attributes;
 use std::alloc::Global;
 
-/// Those of a macro's alternatives that the rule of a call has, and their places among the macro's.
+/// Those of a macro's alternatives that the rule of a call has, and their indices among the macro's.
 #[derive(Drop)]
 struct Kept {
     alternatives: Vec<Alternative>,
@@ -78,16 +78,16 @@ fn instance_alternatives(
     Ok(kept)
 }
 
-/// What a call of a macro is made into.
+/// What a call of a macro is desugared to.
 #[derive(Drop)]
 pub(super) struct Instance {
     /// The rule, in which the macro's names stand for the arguments.
     pub(super) rule: NonterminalData,
-    /// The places, among the macro's alternatives, of those that it has.
+    /// The indices, among the macro's alternatives, of those that it has.
     pub(super) kept: Vec<usize>,
 }
 
-/// What a call of a macro with these arguments is made into.
+/// What a call of a macro with these arguments is desugared to.
 ///
 /// Errors: at the first alternative whose condition has no value F33 (`ConditionArgument`) or F34 (`ConditionPattern`); `Memory`.
 pub(super) fn instance_rule(

@@ -1,4 +1,4 @@
-//! Where the alternatives of made rules come from.
+//! The origins of the alternatives of generated rules.
 ghost use Rattle.std.specs.Prelude.{◌≡◌, ◌++◌, IfOk, OnOk, flat_map, option_map, option_to_list, slice_get};
 ghost use Rattle.lalrpop_norm_origins.specs.Origins.{origin_view, origins_view, origin_lists};
 ghost use Rattle.lalrpop_norm_nodes.specs.Tables.{wholes_in, IsNodeTable};
@@ -13,14 +13,14 @@ use lalrpop_norm_tree::grammar::parse_tree::{Atom, NoMemory};
 use std::alloc::Global;
 use std::collections::BTreeMap;
 
-/// The origin at a place.
+/// The origin at an index.
 fn origin_in(own: &[Origin], place: usize) -> Option<&Origin>
     ensures { option_map (λ o. o.now) result ≡ slice_get own.now place }
 {
     own.get(place)
 }
 
-/// The same origin once more.
+/// A copy of the origin.
 fn copied_origin(own: &[Origin], place: usize) -> Option<Origin>
     ensures { option_to_list (option_map origin_view result) ≡ origin_at (origins_view own.now) place }
 {
@@ -30,7 +30,7 @@ fn copied_origin(own: &[Origin], place: usize) -> Option<Origin>
     }
 }
 
-/// Adds the origin at a place.
+/// Adds the origin at an index.
 fn add_origin(own: &[Origin], place: usize, origins: &mut Vec<Origin>) -> Result<(), NoMemory>
     ensures { OnOk result (origins_view origins.new.items ≡ origins_view origins.old.items ++ origin_at (origins_view own.now) place) }
 {
@@ -83,7 +83,7 @@ fn unary_origins(alloc: Global, unary: Unary) -> Result<Option<Vec<Origin>>, NoM
     }
 }
 
-/// Of a lookaround.
+/// Of a location symbol.
 fn leaf_origins(alloc: Global, leaf: Leaf) -> Result<Option<Vec<Origin>>, NoMemory>
     ensures { IfOk result (λ o. shown_list o ≡ leaf_lists leaf) }
 {
@@ -94,7 +94,7 @@ fn leaf_origins(alloc: Global, leaf: Leaf) -> Result<Option<Vec<Origin>>, NoMemo
     }
 }
 
-/// Of a node that is made into a rule, where a call of a macro keeps these of its alternatives.
+/// Of a node that is desugared, where a call of a macro keeps these of its alternatives.
 fn node_origins(
     alloc: Global,
     macros: &BTreeMap<Atom, Vec<Origin>>,
@@ -114,7 +114,7 @@ fn node_origins(
     }
 }
 
-/// Of a symbol that is made into a rule.
+/// Of a symbol that is desugared.
 fn symbol_origins(
     alloc: Global,
     table: &Table,
@@ -130,7 +130,7 @@ fn symbol_origins(
     }
 }
 
-/// Adds the list of the rule that a symbol is made into, if it is made into one.
+/// Adds the list of the rule that a symbol is desugared to, if it is desugared.
 fn add_made(
     alloc: Global,
     table: &Table,
@@ -150,7 +150,7 @@ fn add_made(
     }
 }
 
-/// Adds the lists of the rules that an expansion made, in the order of the rules.
+/// Adds the lists of the rules that an expansion generated, in the order of the rules.
 pub(super) fn add_all_made(
     alloc: Global,
     expanded: &Expanded,

@@ -1,4 +1,4 @@
-//! The rules that symbols are made into.
+//! The rules that symbols are desugared to.
 ghost use Rattle.std.specs.Prelude.{◌≡◌, ℕ, List, [], ◌∷◌, ◌++◌, Some, IfOk, IfSome, OnOk, map, flat_map, reverse, option_map, option_to_list};
 ghost use Rattle.lalrpop_norm_tree.specs.Symbols.{at, group, call, repeated, kind_view, parts_view, expr_view, macro_view, symbol_view};
 ghost use Rattle.lalrpop_norm_tree.specs.SymbolTexts.{kind_text};
@@ -41,16 +41,16 @@ use lalrpop_norm_tree::grammar::parse_tree::{
 use std::alloc::Global;
 use std::mem;
 
-/// What rules are made by, in each round.
+/// What each round needs to generate rules.
 #[derive(Drop)]
 pub(super) struct Makers {
     /// The macros.
     pub(super) macros: Macros,
-    /// The table that numbers the one name that stands for what is repeated, in the rule of each repeat.
+    /// The table with the index of the one name that stands for what is repeated, in the rule of each repeat.
     pub(super) hole: Names,
 }
 
-/// The table that numbers the one name that stands for what is repeated. The only error is want of memory.
+/// The table with the index of the one name that stands for what is repeated. The only error is a failed allocation.
 pub(super) fn numbers_of_hole(alloc: Global) -> Result<Names, NoMemory>
     ensures { IfOk result (IsNumbering (map (λ n. n.0) hole)) }
 {
@@ -79,7 +79,7 @@ fn group_of(alloc: Global, head: Head, expr: &mut ExprSymbol) -> NormResult<Nont
     Ok(group_rule(alloc, head, symbols)?)
 }
 
-/// Looks for a name before what is repeated so many times.
+/// Looks for a named or tuple symbol under `X{n}`.
 fn check_times(
     alloc: Global,
     name: &Atom,
@@ -109,7 +109,7 @@ fn check_times(
 
 /// The rule of a repeat, which takes what is repeated.
 ///
-/// Errors: F57 (`NamedInTimes`) where a named or tuple symbol is repeated so many times; `Memory`.
+/// Errors: F57 (`NamedInTimes`) if a named or tuple symbol is repeated by `X{n}`; `Memory`.
 fn repeat_of<'m>(
     alloc: Global,
     numbers: &'m Names,
@@ -136,7 +136,7 @@ fn repeat_of<'m>(
     Ok(Pending { rule, filling })
 }
 
-/// The rule of a call of that macro, where these are given for its names.
+/// The rule of a call of that macro, in the environment that binds its names to these.
 fn with_given<'m>(
     called: &'m NumberedMacro,
     rule: NonterminalData,
@@ -155,7 +155,7 @@ fn with_given<'m>(
     }
 }
 
-/// The rule of a call of a macro with these arguments, and the places of the macro's alternatives that it has.
+/// The rule of a call of a macro with these arguments, and the indices of the macro's alternatives that it has.
 ///
 /// Errors: at the first alternative whose condition has no value F33 (`ConditionArgument`) or F34 (`ConditionPattern`); `Memory`.
 fn instance_of<'m>(
@@ -183,16 +183,16 @@ fn instance_of<'m>(
     Ok((pending, instance.kept))
 }
 
-/// What a symbol is made into.
+/// What a symbol is desugared to.
 #[derive(Drop)]
 struct Making<'m> {
-    /// Its rule, if it is made into one.
+    /// Its rule, if it is desugared.
     pending: Option<Pending<'m>>,
-    /// Of a macro call the places, among the macro's alternatives, of those that the rule has.
+    /// Of a macro call the indices, among the macro's alternatives, of those that the rule has.
     kept: Vec<usize>,
 }
 
-/// What a symbol that calls no macro is made into.
+/// What a symbol that calls no macro is desugared to.
 fn without_call<'m>(alloc: Global, pending: Option<Pending<'m>>) -> Making<'m>
     ensures { (result.pending ≡ pending.entry) × (result.kept.items ≡ []) }
 {
@@ -202,7 +202,7 @@ fn without_call<'m>(alloc: Global, pending: Option<Pending<'m>>) -> Making<'m>
     }
 }
 
-/// What a symbol is made into whose rule has nothing left to be read.
+/// What a symbol is desugared to whose rule has nothing left to be read.
 fn finished<'m>(alloc: Global, rule: NonterminalData) -> Making<'m>
     ensures { (result.pending ≡ Some (record { rule = rule; filling = None })) × (result.kept.items ≡ []) }
 {
@@ -244,10 +244,10 @@ fn called_of<'m>(
     }
 }
 
-/// The rule that a symbol is made into, if it is made into one; it takes the symbol's parts.
+/// The rule that a symbol is desugared to, if it is desugared; it takes the symbol's parts.
 ///
-/// Errors: F35 (`NamedInGroup`) at a group with a named or tuple symbol in it; F57 (`NamedInTimes`) at a repeat of one so many
-/// times; at a condition of a macro that is called F33 (`ConditionArgument`) or F34 (`ConditionPattern`); `Memory`.
+/// Errors: F35 (`NamedInGroup`) at a group with a named or tuple symbol in it; F57 (`NamedInTimes`) at a repeat `X{n}` of one; at
+/// a condition of a macro that is called F33 (`ConditionArgument`) or F34 (`ConditionPattern`); `Memory`.
 fn rule_of<'m>(
     alloc: Global,
     makers: &'m Makers,
@@ -297,7 +297,7 @@ fn rule_of<'m>(
     }
 }
 
-/// The rule of a symbol that waits, if it is made into one.
+/// The rule of a symbol on the worklist, if it is desugared.
 fn pending_rule<'m>(
     alloc: Global,
     makers: &'m Makers,
@@ -324,16 +324,16 @@ fn pending_rule<'m>(
     rule_of(alloc, makers, table, waiting.number, head, &mut symbol.kind)
 }
 
-/// A symbol that is made into a rule.
+/// A symbol that is desugared.
 #[derive(Drop)]
 pub(super) struct MadeSymbol {
-    /// Its number.
+    /// Its id.
     pub(super) number: usize,
-    /// Of a macro call the places, among the macro's alternatives, of those that the rule has.
+    /// Of a macro call the indices, among the macro's alternatives, of those that the rule has.
     pub(super) kept: Vec<usize>,
 }
 
-/// Adds the symbol of that number, and the rule that it is made into, if it is made into one.
+/// Adds the symbol of that id, and the rule that it is desugared to, if it is desugared.
 fn add_rule<'m>(
     number: usize,
     making: Making<'m>,
@@ -357,8 +357,8 @@ fn add_rule<'m>(
     }
 }
 
-/// Makes the rules of the symbols that wait, that of the last one first, behind those of the rounds before, and answers what is given
-/// for the names in each; the symbols are put, in the same order, behind those that were made into rules before.
+/// Generates the rules of the symbols on the worklist, that of the last one first, behind those of the rounds before, and answers
+/// the environment of each; the symbols are added, in the same order, behind those that were desugared before.
 pub(super) fn make_rules<'m>(
     alloc: Global,
     makers: &'m Makers,

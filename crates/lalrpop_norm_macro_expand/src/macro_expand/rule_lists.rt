@@ -51,7 +51,7 @@ fn add_list(
     Ok(())
 }
 
-/// The lists of the rules of a grammar, which are handed in in item order.
+/// The lists of the rules of a grammar, which are passed in item order.
 pub(super) fn rule_lists(
     alloc: Global,
     grammar: &Grammar,

@@ -1,7 +1,7 @@
 //! The expansion with the origins of what it answers.
 //!
-//! The rounds are those of every expansion. What they know at their end tells which symbol each made rule stands for, and which of a
-//! macro's alternatives a call kept: no condition is asked again.
+//! The rounds are those of every expansion. What they know at their end gives the symbol that each generated rule stands for, and
+//! the alternatives of a macro that a call kept: no condition is evaluated again.
 ghost use Rattle.std.specs.Prelude.{◌≡◌, ◌++◌, IfOk, map, flat_map};
 ghost use Rattle.lalrpop_norm_tree.specs.Items.{grammar_view};
 ghost use Rattle.lalrpop_norm_faults.specs.Faults.{Refuses};
@@ -24,7 +24,7 @@ use lalrpop_norm_resolve::resolve::resolve;
 use lalrpop_norm_tree::grammar::parse_tree::{Grammar, NoMemory};
 use std::alloc::Global;
 
-/// The lists of the rules without arguments, then those of the rules made.
+/// The lists of the rules without arguments, then those of the generated rules.
 fn plain_lists(
     alloc: Global,
     lists: RuleLists,
@@ -41,9 +41,10 @@ fn plain_lists(
     Ok(all)
 }
 
-/// Expands as `expand_resolved` does, and tells where the alternatives of the plain rules come from: `origins` has one list for each
-/// rule of the grammar, in item order, and in it one origin for each alternative, and so has what is answered for the answer. A rule
-/// without arguments keeps its list, and so does, in the rule of a macro call, each alternative that the call keeps of the macro.
+/// Expands as `expand_resolved` does, and answers the origins of the alternatives of the expanded grammar. `origins` has one list
+/// for each rule of the grammar, in item order, and in it one origin for each alternative; the answer has the same shape for the
+/// expanded grammar. A rule without arguments keeps its list. In the rule of a macro call, each alternative that the call keeps
+/// of the macro keeps its origin.
 ///
 /// Errors: as of `expand_resolved`.
 pub fn expand_resolved_traced(
@@ -53,7 +54,7 @@ pub fn expand_resolved_traced(
     origins: Vec<Vec<Origin>>,
 ) -> NormResult<(Grammar, Vec<Vec<Origin>>)>
     requires { IsShaped (grammar_view grammar).items (origin_lists origins.items) }
-    // Ok exactly where no fault stands, and a refusal names the first one, memory aside.
+    // Ok if and only if no fault holds, else the first one is reported, unless an allocation fails.
     ensures refuses { Refuses result (expansion_faults comparison (grammar_view grammar) limit) }
     // No round after the first `limit` has a new symbol.
     ensures whole { IfOk result (λ made. IsEnded comparison (grammar_view grammar) limit) }
@@ -67,7 +68,7 @@ pub fn expand_resolved_traced(
     Ok((expanded.grammar, plain))
 }
 
-/// Resolves the names of a grammar (`resolve`) and expands it, with the origins of the plain rules' alternatives
+/// Resolves the names of a grammar (`resolve`) and expands it, with the origins of the alternatives of the expanded grammar
 /// (`expand_resolved_traced`).
 ///
 /// Errors: as of `expand_macros`.
@@ -78,7 +79,7 @@ pub fn expand_macros_traced(
     origins: Vec<Vec<Origin>>,
 ) -> NormResult<(Grammar, Vec<Vec<Origin>>)>
     requires { IsShaped (grammar_view grammar).items (origin_lists origins.items) }
-    // Ok exactly where no fault stands, and a refusal names the first one, memory aside.
+    // Ok if and only if no fault holds, else the first one is reported, unless an allocation fails.
     ensures refuses { Refuses result (macro_faults comparison (grammar_view grammar) limit) }
     // No round after the first `limit` has a new symbol.
     ensures whole { IfOk result (λ made. IsEnded comparison (resolved_grammar (grammar_view grammar)) limit) }

@@ -18,20 +18,20 @@ use lalrpop_norm_resolve::resolve::check_globals;
 use lalrpop_norm_tree::grammar::parse_tree::{Atom, Grammar, GrammarItem, NonterminalData};
 use std::alloc::Global;
 
-/// The grammar with levels: its names resolved, in the place of each rule the rules of its levels, macro definitions
-/// likewise, all else unchanged. Alternatives that are not enabled are to be taken out before.
+/// The grammar with levels: its names resolved, in place of each rule the rules of its levels, macro definitions likewise, all
+/// else unchanged. Alternatives that are not enabled are to be taken out before.
 ///
-/// A refusal is the first fault, in this order: those of names in the grammar (F25 to F32); the faults of its levels
+/// The first error is reported, in this order: the faults of names in the grammar (F25 to F32); the faults of its levels
 /// (F12), rule by rule, see [`read_levels`](super::read_levels); and those of names in the grammar with levels, where
 /// the name of a level is taken (F25), or a macro has two levels or more (F29, at the macro): a level names the one below
-/// it without arguments. The grammar is consumed, also where it is refused. The other error is want of memory.
+/// it without arguments. The grammar is consumed, also if it is rejected. The other error is a failed allocation.
 pub fn expand_precedence(alloc: Global, grammar: Grammar) -> NormResult<Grammar>
     ensures expands { RefusesOr result (precedence_faults (grammar_view grammar)) (λ g. grammar_view g ≡ leveled_grammar (resolved_grammar (grammar_view grammar))) }
     // nothing is left to resolve
     ensures resolved { IfOk result (λ g. resolved_grammar (grammar_view g) ≡ grammar_view g) }
 {
     let resolved = resolve_names(alloc, grammar)?;
-    // told only after the names of levels were looked at
+    // reported only after the names of levels were checked
     let macros = check_macros(alloc, &resolved.grammar.items);
     let leveled = make_levels(alloc, resolved.grammar)?;
     check_made(alloc, resolved.names, &leveled.made, &leveled.grammar)?;
@@ -39,8 +39,8 @@ pub fn expand_precedence(alloc: Global, grammar: Grammar) -> NormResult<Grammar>
     Ok(leveled.grammar)
 }
 
-/// Looks for the name of a level that is taken: those that were made are looked up among the names of the grammar before
-/// its levels were made, and only where one of them is there the names of the grammar with levels are listed.
+/// Looks for the name of a level that is taken. The generated names are looked up among the names of the grammar before its
+/// levels were expanded. Only if one of them is there, the names of the grammar with levels are listed.
 fn check_made(alloc: Global, names: GlobalNames, made: &[Atom], leveled: &Grammar) -> NormResult<()>
     requires { are_new (table_rows names) made.now ≡ true → repeated_faults [] (globals (grammar_view leveled.now)) ≡ [] }
     ensures { Refuses result (repeated_faults [] (globals (grammar_view leveled.now))) }

@@ -18,13 +18,13 @@ use lalrpop_norm_tree::grammar::parse_tree::{
 use std::alloc::Global;
 use std::mem;
 
-/// The grammar with levels: in the place of each rule the rules of its levels, macro definitions likewise, all else
-/// unchanged. Names are taken as they stand, so those of the grammar are to be resolved before; alternatives that are
-/// not enabled are to be taken out before.
+/// The grammar with levels: in place of each rule the rules of its levels, macro definitions likewise, all else unchanged. Names
+/// are taken as they are: the names of the grammar are to be resolved before. Alternatives that are not enabled are to be taken
+/// out before.
 ///
-/// The first fault on levels of a rule is refused, the rules in item order; the errors are those of
-/// [`read_levels`](super::read_levels). The grammar is consumed, also where it is refused.
-/// That names of levels are taken, or a macro has several levels, is not looked for.
+/// The first fault of the levels of a rule is reported, the rules in item order; the errors are those of
+/// [`read_levels`](super::read_levels). The grammar is consumed, also if it is rejected.
+/// Names of levels that are taken, and macros with several levels, are not looked for.
 pub fn expand_levels(alloc: Global, grammar: Grammar) -> NormResult<Grammar>
     ensures { RefusesOr result (grammar_level_faults (grammar_view grammar)) (λ g. grammar_view g ≡ leveled_grammar (grammar_view grammar)) }
 {
@@ -32,14 +32,14 @@ pub fn expand_levels(alloc: Global, grammar: Grammar) -> NormResult<Grammar>
     Ok(leveled.grammar)
 }
 
-/// A grammar with levels, and the names made for it: of each rule those of its levels but the highest.
+/// A grammar with levels, and the names generated for it: of each rule those of its levels but the highest.
 #[derive(Drop)]
 pub(super) struct Leveled {
     pub(super) grammar: Grammar,
     pub(super) made: Vec<Atom>,
 }
 
-/// The grammar with levels, and the names made for it.
+/// The grammar with levels, and the names generated for it.
 pub(super) fn make_levels(alloc: Global, grammar: Grammar) -> NormResult<Leveled>
     ensures value { RefusesOr result (grammar_level_faults (grammar_view grammar)) (λ l. grammar_view l.grammar ≡ leveled_grammar (grammar_view grammar)) }
     ensures names { IfOk result (λ l. l.made.items ≡ grammar_made_names (grammar_view grammar)) }
@@ -54,7 +54,7 @@ pub(super) fn make_levels(alloc: Global, grammar: Grammar) -> NormResult<Leveled
     })
 }
 
-/// The items with levels. Where no rule has levels, they are kept in the list that they stand in.
+/// The items with levels. If no rule has levels, their list is kept.
 #[tactic(auto, using(crate::proofs::UnleveledItems::all_faults, crate::proofs::UnleveledItems::all_items, crate::proofs::UnleveledItems::all_names))]
 fn expand_items(
     alloc: Global,
@@ -99,7 +99,7 @@ fn item_has_levels(item: &GrammarItem) -> bool
     }
 }
 
-/// Puts what stands for an item behind the items made so far, and the names made for it behind those so far.
+/// Adds what an item becomes behind the items so far, and the names generated for it behind those so far.
 #[tactic(auto, using(crate::proofs::ItemLemmas::rule_faults, crate::proofs::ItemLemmas::rule_adds_none, crate::proofs::ItemLemmas::rule_items, crate::proofs::ItemLemmas::rule_names, crate::proofs::ItemLemmas::no_faults, crate::proofs::ItemLemmas::as_it_is, crate::proofs::ItemLemmas::names_none))]
 fn expand_item(
     alloc: Global,
@@ -126,7 +126,7 @@ fn expand_item(
     }
 }
 
-/// Puts the names of the rules of levels, but for the highest, behind the names made so far.
+/// Adds the names of the rules of levels, but for the highest, behind the names generated so far.
 #[tactic(auto, using(crate::proofs::MadeNameLemmas::without_last_view))]
 fn push_made(rules: &[NonterminalData], names: &mut Vec<Atom>) -> Result<(), NoMemory>
     ensures { OnOk result (names.new.items ≡ names.old.items ++ map rule_name (without_last (map rule_view rules.now))) }

@@ -12,7 +12,7 @@ use lalrpop_norm_tree::grammar::parse_tree::{Alternative, NoMemory};
 use std::alloc::Global;
 use std::collections::BTreeSet;
 
-/// An alternative with its level and side.
+/// An alternative with its level and associativity.
 #[derive(Drop)]
 pub(super) struct Marked {
     pub(super) level: u32,
@@ -27,7 +27,7 @@ pub(super) struct Group {
     pub(super) alternatives: Vec<Marked>,
 }
 
-/// Each alternative with the level and the side that stand at its place.
+/// Each alternative with the level and the associativity at its index.
 pub(super) fn mark(
     alloc: Global,
     alternatives: Vec<Alternative>,
@@ -106,7 +106,7 @@ fn empty_groups(alloc: Global, levels: &[u32]) -> Result<Vec<Group>, NoMemory>
     Ok(groups)
 }
 
-/// The place of a level in a rising list that has it.
+/// The index of a level in a rising list that has it.
 pub(super) fn rank(levels: &[u32], level: u32) -> usize
     requires rising { IsRising levels.now }
     requires there { In level levels.now }

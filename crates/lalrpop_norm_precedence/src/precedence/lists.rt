@@ -1,4 +1,4 @@
-//! Where the alternatives of the rules of levels come from.
+//! The origins of the alternatives of the rules of levels.
 ghost use Rattle.std.specs.Prelude.{◌≡◌, ◌<◌, ℕ, [], ◌++◌, IfOk, OnOk, false, length, map, vec_len};
 ghost use Rattle.lalrpop_norm_theory.specs.Rounds.{In};
 ghost use Rattle.lalrpop_norm_tree.specs.Items.{rule_view, item_view, grammar_view};
@@ -21,9 +21,9 @@ use lalrpop_norm_tree::grammar::parse_tree::{Grammar, GrammarItem, NoMemory, Non
 use std::alloc::Global;
 use std::collections::BTreeSet;
 
-/// The same grammar as of [`expand_precedence`], with its refusals, and where the alternatives come from: the lists of a rule's
-/// levels stand in the place of the rule's, each with the origins of the level's own alternatives, and then that of the step.
-/// `origins` has one list for each rule in item order, and in it one origin for each alternative.
+/// The grammar of [`expand_precedence`], with the same errors, and the origins of the alternatives: the lists of a rule's levels
+/// are in place of the rule's, each with the origins of the level's own alternatives, and then that of the step. `origins` has
+/// one list for each rule in item order, and in it one origin for each alternative.
 pub fn expand_precedence_traced(
     alloc: Global,
     grammar: Grammar,

@@ -1,4 +1,4 @@
-//! Levels and sides as a rule's alternatives state them.
+//! Levels and associativities as a rule's alternatives state them.
 ghost use Rattle.std.specs.Prelude.{◌≡◌, ◌^◌, None, IfOk, is_some, option_map, map, flat_map, codes, if◌then◌else◌};
 ghost use Rattle.lalrpop_norm_tree.specs.Accessors.{or_else};
 ghost use Rattle.lalrpop_norm_tree_parts.specs.Attributes.{attribute_view, attributes_view};
@@ -17,14 +17,14 @@ use lalrpop_norm_precedence_steps::levels::{check_first, differ, has_levels};
 use lalrpop_norm_tree::grammar::parse_tree::{Alternative, Attribute, NonterminalData};
 use std::alloc::{AllocError, Global};
 
-/// The level and the side of each alternative of a rule, in order. All alternatives count; those that are not enabled
+/// The level and the associativity of each alternative of a rule, in order. All alternatives count; those that are not enabled
 /// are to be taken out before.
 ///
-/// The first fault is refused, in this order: a rule with a `precedence` or an `assoc` whose first alternative has no
-/// `precedence` (F12a, at that alternative); for each alternative a level that is not `level = ".."` (F12b) or no
-/// number of 32 bits (F12c), both at the name of the `precedence`, and a side that is not `side = ".."` (F12d) or none
-/// of the four (F12e); then a side on the lowest level (F12f): any where an alternative states that level, any but
-/// `all` where it inherits it; these three at the name of the `assoc`. The other error is `Memory`.
+/// The first error is reported, in this order: a rule with a `precedence` or an `assoc` whose first alternative has no
+/// `precedence` (F12a, at that alternative); for each alternative a level that is not `level = ".."` (F12b) or no number of 32
+/// bits (F12c), both at the name of the `precedence`, and an associativity that is not `side = ".."` (F12d) or none of the four
+/// (F12e); then an associativity on the lowest level (F12f): any if an alternative states that level, any but `all` if it
+/// inherits it; these three at the name of the `assoc`. The other error is `Memory`.
 pub fn read_levels(alloc: Global, rule: &NonterminalData) -> NormResult<Vec<AlternativeLevel>>
     ensures { RefusesOr result (level_faults (rule_view rule.now)) (λ levels. map alternative_level_view levels.items ≡ levels_and_sides (rule_view rule.now)) }
 {
@@ -36,10 +36,10 @@ pub fn read_levels(alloc: Global, rule: &NonterminalData) -> NormResult<Vec<Alte
     Ok(levels)
 }
 
-/// Whether the alternatives of a rule have two levels or more, 0 counting where none is stated. All alternatives count;
+/// Whether the alternatives of a rule have two levels or more, where 0 counts if none is stated. All alternatives count;
 /// those that are not enabled are to be taken out before.
 ///
-/// The only error is want of memory.
+/// The only error is a failed allocation.
 #[tactic(auto, using(crate::proofs::SeveralLemmas::several_read))]
 pub fn has_several_levels(alloc: Global, rule: &NonterminalData) -> Result<bool, AllocError>
     ensures { IfOk result (λ several. several ≡ has_several_levels (rule_view rule.now)) }
@@ -158,7 +158,7 @@ fn check_attributes(alloc: Global, alternatives: &[Alternative]) -> NormResult<(
     Ok(())
 }
 
-// ---- levels and sides of places
+// ---- levels and associativities of indices
 
 fn level_after(before: Option<u32>, stated: Option<u32>) -> Option<u32>
     ensures { result ≡ or_else stated before }
@@ -166,7 +166,7 @@ fn level_after(before: Option<u32>, stated: Option<u32>) -> Option<u32>
     stated.or(before)
 }
 
-/// A level that is stated starts anew, with the side beside it alone.
+/// A level that is stated starts anew, with only the associativity beside it.
 fn side_after(before: Option<Assoc>, level: Option<u32>, stated: Option<Assoc>) -> Option<Assoc>
     ensures { result ≡ (if is_some level then stated else or_else stated before) }
 {

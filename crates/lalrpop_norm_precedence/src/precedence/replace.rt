@@ -1,4 +1,4 @@
-//! Own occurrences replaced by the names of levels.
+//! Recursive occurrences, rewritten to the names of levels.
 ghost use Rattle.std.specs.Prelude.{◌≡◌, false, IfOk, OnOk};
 ghost use Rattle.lalrpop_norm_tree.specs.Symbols.{kind_view, symbol_view, repeat_view, parts_view};
 ghost use Rattle.lalrpop_norm_model.specs.Occurrences.{count_kind, count_part, count_parts};
@@ -11,9 +11,9 @@ use lalrpop_norm_tree::grammar::parse_tree::{
     NoMemory, NonterminalString, RepeatSymbol, Symbol, SymbolKind,
 };
 
-/// Replaces each nonterminal `target` in the symbols, in macro arguments, groups, repeats and wrapped symbols too. The
-/// name of a macro that is called is none of them, and neither is a name that is not resolved. Spans stay. Where there
-/// was no memory the symbols may be replaced in part.
+/// Rewrites each nonterminal `target` in the symbols, also in macro arguments, groups, repeats and wrapped symbols. The name of a
+/// macro that is called is none of them, and neither is a name that is not resolved. Spans stay. If an allocation fails, the
+/// symbols may be rewritten in part.
 pub fn replace_nonterm(
     target: &NonterminalString,
     subst: Substitution<'_>,
@@ -35,7 +35,7 @@ pub fn replace_nonterm(
     }
 }
 
-// Each of the following answers whether an own occurrence was met so far, `is_met` being that before.
+// Each of the following answers whether a recursive occurrence was reached, where `is_met` is that answer before it.
 
 #[cycle(replace)]
 fn replace_symbols(

@@ -30,13 +30,12 @@ use std::mem;
 /// The rules of the levels of a rule, rising; a rule without levels as it is. All its alternatives count; those that
 /// are not enabled are to be taken out before.
 ///
-/// The highest level keeps the name, each other one has its number behind it. A level has its own alternatives in
-/// order, without the `precedence` and the `assoc` that were read, each own occurrence as the level that the
-/// alternative's side gives it; then, but on the lowest level, a step to the level below: its name alone, at the span
-/// of the rule, without code. All else of the rule is copied to each level. In a macro no reference is an own
-/// occurrence.
+/// The highest level keeps the name; the name of each other one ends in its number. A level has its own alternatives in order,
+/// without the `precedence` and the `assoc` that were read, each recursive occurrence as the level that the alternative's
+/// associativity gives it; then, but on the lowest level, a step to the level below: only its name, at the span of the rule,
+/// without action code. All else of the rule is copied to each level. In a macro no reference is a recursive occurrence.
 ///
-/// The errors are those of [`read_levels`](super::read_levels). The rule is consumed, also where it is refused.
+/// The errors are those of [`read_levels`](super::read_levels). The rule is consumed, also if it is rejected.
 pub fn expand_nonterm(alloc: Global, rule: NonterminalData) -> NormResult<Vec<NonterminalData>>
     ensures { RefusesOr result (level_faults (rule_view rule)) (λ rules. map rule_view rules.items ≡ level_rules (rule_view rule)) }
 {
@@ -221,7 +220,7 @@ fn replace_own(
     Ok(())
 }
 
-/// Replaces the own occurrences in an alternative of this side.
+/// Rewrites the recursive occurrences in an alternative of this associativity.
 #[tactic(auto, using(crate::proofs::KindLemmas::by_side))]
 fn replace_by_side(
     target: &NonterminalString,

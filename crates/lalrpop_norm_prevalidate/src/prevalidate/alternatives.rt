@@ -47,7 +47,7 @@ fn inside_of(kind: &SymbolKind) -> Option<Span>
     }
 }
 
-/// Where the symbol inside the first named or tuple symbol stands.
+/// The span of the symbol inside the first named or tuple symbol.
 fn first_inside(symbols: &[Symbol]) -> Option<Span>
     ensures { result ≡ first_inside (parts_view symbols.now) }
 {

@@ -1,4 +1,4 @@
-//! Where the `cfg` of a grammar are of no known form.
+//! The spans of the `cfg` of a grammar that are of no known form.
 ghost use Rattle.std.specs.Prelude.{◌≡◌, ◌++◌, IfOk, OnOk, map, flat_map, option_map};
 ghost use Rattle.lalrpop_norm_tree_parts.specs.Attributes.{attribute_view, attributes_view};
 ghost use Rattle.lalrpop_norm_tree.specs.Items.{alternative_view, conversion_view, enum_token_view, grammar_view, item_view, rule_view};
@@ -12,7 +12,7 @@ use lalrpop_norm_tree::grammar::parse_tree::{
 };
 use std::alloc::Global;
 
-/// Adds the place of F11 at an attribute, if it is a `cfg` that fails.
+/// Adds the span of F11 at an attribute, if it is a `cfg` that fails.
 fn add_attribute(
     alloc: Global,
     attribute: &Attribute,
@@ -109,9 +109,9 @@ fn add_items(alloc: Global, items: &[GrammarItem], spans: &mut Vec<Span>) -> Res
     Ok(())
 }
 
-/// Where the `cfg` of a grammar are of no known form: the place of F11 (`MalformedCfg`) at each `cfg` on a rule, an alternative
-/// or a conversion that fails, in the order of visiting. It serves those who move old grammars: `validate` tells the first of
-/// all faults alone. The only error is want of memory.
+/// The spans of the `cfg` of a grammar that are of no known form: the span of F11 (`MalformedCfg`) at each `cfg` on a rule, an
+/// alternative or a conversion that fails, in visiting order. It serves those who migrate old grammars: `validate` reports only
+/// the first of all faults. The only error is a failed allocation.
 pub fn malformed_cfgs(alloc: Global, grammar: &Grammar) -> Result<Vec<Span>, NoMemory>
     ensures { IfOk result (λ v. v.items ≡ malformed_cfgs (grammar_view grammar.now)) }
 {

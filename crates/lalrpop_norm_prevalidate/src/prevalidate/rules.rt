@@ -119,7 +119,7 @@ fn validate_alternatives(
     Ok(())
 }
 
-/// The levels and sides of all written alternatives, which are read only where some alternative states one.
+/// The levels and associativities of all written alternatives, which are read only if some alternative states one.
 #[tactic(auto, using(lalrpop_norm_precedence_steps::proofs::ReadingLemmas::refuses_without))]
 fn validate_levels(alloc: Global, rule: &NonterminalData) -> NormResult<()>
     ensures { Refuses result (level_faults (rule_view rule.now)) }
@@ -143,7 +143,7 @@ fn check_public(alloc: Global, public_macro: bool, span: Span) -> NormResult<()>
     Ok(())
 }
 
-/// The refusal of a written type with the type of a symbol in it.
+/// The error of a written type with the type of a symbol in it.
 pub(super) fn check_type(alloc: Global, holds: bool, span: Span) -> NormResult<()>
     ensures { Refuses result (fault_if holds (FaultKind.WrittenOfSymbol, span)) }
 {

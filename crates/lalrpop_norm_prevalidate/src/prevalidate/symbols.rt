@@ -76,7 +76,7 @@ fn validate_kind(
     }
 }
 
-/// Where a terminal is written, it is not the error terminal.
+/// If a terminal is written, it is not the error terminal.
 #[tactic(auto, unfolding(crate::specs::SymbolFaults::terminal_faults))]
 pub(super) fn validate_terminal(
     alloc: Global,
@@ -127,7 +127,7 @@ fn validate_location(alloc: Global, lacks_location: bool, span: Span) -> NormRes
     Ok(())
 }
 
-/// What is wrong with a list of symbols beside the symbols.
+/// The faults of a list of symbols beside those of the symbols.
 fn validate_beside(alloc: Global, symbols: &[Symbol]) -> NormResult<()>
     ensures { Refuses result (beside_faults (parts_view symbols.now)) }
 {
@@ -204,7 +204,7 @@ fn is_name(name: &Atom, found: Option<&Atom>) -> bool
     }
 }
 
-/// Where the first symbol of that name stands.
+/// The span of the first symbol of that name.
 fn named_at(name: &Atom, symbols: &[Symbol]) -> Option<Span>
     ensures { result ≡ named_at name.now (parts_view symbols.now) }
 {
@@ -216,7 +216,7 @@ fn named_at(name: &Atom, symbols: &[Symbol]) -> Option<Span>
     None
 }
 
-/// The name with the place of the second symbol of it, if there is one.
+/// The name with the span of the second symbol of it, if there is one.
 fn again<'a>(name: Option<&'a Atom>, rest: &[Symbol]) -> Option<(&'a Atom, Span)>
     ensures { option_map (λ r. (r.0.now, r.1)) result ≡ again (option_map (λ a. a.now) name.entry) (parts_view rest.now) }
 {
@@ -251,9 +251,9 @@ fn lesser<'a>(
     }
 }
 
-/// The least name that two symbols of a short list have, with the place of the second of them.
+/// The least name that two symbols of a short list have, with the span of the second of them.
 ///
-/// Each name is compared with those behind it, in the square of their number and without memory.
+/// Each name is compared with those behind it, in quadratic time and without allocation.
 fn least_of_few(symbols: &[Symbol]) -> Option<(&Atom, Span)>
     ensures { option_map (λ r. (r.0.now, r.1)) result ≡ least_twice (parts_view symbols.now) }
 {
@@ -265,7 +265,7 @@ fn least_of_few(symbols: &[Symbol]) -> Option<(&Atom, Span)>
     least
 }
 
-/// Notes the place of a symbol under its name, if it has one, and answers the name with the place that was noted before.
+/// Notes the span of a symbol under its name, if it has one, and answers the name with the span that was noted before.
 fn note<'a>(
     places: &mut BTreeMap<Atom, Span>,
     symbol: &'a Symbol,
@@ -283,7 +283,7 @@ fn note<'a>(
     }
 }
 
-/// The least name that two symbols of a long list have, with the place of the second of them.
+/// The least name that two symbols of a long list have, with the span of the second of them.
 fn least_of_many(alloc: Global, symbols: &[Symbol]) -> Result<Option<(&Atom, Span)>, NoMemory>
     ensures { IfOk result (λ r. option_map (λ r. (r.0.now, r.1)) r ≡ least_twice (parts_view symbols.now)) }
 {
@@ -296,7 +296,7 @@ fn least_of_many(alloc: Global, symbols: &[Symbol]) -> Result<Option<(&Atom, Spa
     Ok(least)
 }
 
-/// The least name that two symbols have, with the place of the second of them.
+/// The least name that two symbols have, with the span of the second of them.
 fn least_twice(alloc: Global, symbols: &[Symbol]) -> Result<Option<(&Atom, Span)>, NoMemory>
     ensures { IfOk result (λ r. option_map (λ r. (r.0.now, r.1)) r ≡ least_twice (parts_view symbols.now)) }
 {

@@ -67,7 +67,7 @@ fn declare(
     }
 }
 
-/// A rule with so many arguments.
+/// A rule with that many arguments.
 #[tactic(auto, using(crate::proofs::NameLemmas::macro_def))]
 fn rule_def(arity: usize) -> Def
     ensures { result ≡ def_of (rule_definition arity) }

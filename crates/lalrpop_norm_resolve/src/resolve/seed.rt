@@ -1,4 +1,4 @@
-//! The seeds of hashes of names: digests of all that are put into a table.
+//! The seeds of hashes of names: digests of all names in a table.
 
 use lalrpop_norm_names::Seeded;
 use lalrpop_norm_tree::grammar::parse_tree::{
@@ -58,8 +58,9 @@ fn read_item(item: &GrammarItem, reader: &mut DefaultHasher) {
 
 /// The hashes of a table for the global names of these items.
 ///
-/// What is read are the names of rules, and the bare terminals of extern enums and of match blocks: all that such a table can hold.
-/// So nobody can choose names that collide there without changing the seed. No clause speaks of it, since no answer depends on it.
+/// What is read are the names of rules, and the bare terminals of extern enums and of match blocks: all that such a table can
+/// hold. Nobody can choose names that collide there without changing the seed. No contract clause mentions it, since no answer
+/// depends on it.
 pub(crate) fn seeded_by(items: &[GrammarItem]) -> Seeded {
     let mut reader = DefaultHasher::new();
     for item in items {

@@ -32,7 +32,7 @@ pub(crate) fn def(globals: &GlobalTable, args: &BTreeSet<Atom>, name: &Atom) -> 
     global(globals, name)
 }
 
-/// The refusal of a name that nothing has.
+/// The error of a name that has no definition.
 pub(crate) fn unknown(alloc: Global, span: Span, name: &Atom) -> NormFailure
     ensures { IsFirst ((FaultKind.NoDefinition, span) ∷ []) result }
 {

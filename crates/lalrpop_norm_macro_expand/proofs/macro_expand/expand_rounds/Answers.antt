@@ -81,7 +81,7 @@ read_round-requires-clause-waiting c =
 zero_left : (left : ℕ) → (left == 0) ≡ true → left ≡ 0
 zero_left left e = grind arith
 
--- what stands first where a test holds
+-- what is first where a test holds
 first_where : (fs all : List Fault) (e : NormFailure) (b : Bool) → (b ≡ true → all ≡ fs) → IsFirst (if b then fs else []) e → IsFirst all e
 first_where fs all e true same h = subst (λ (gs : List Fault). IsFirst gs e) (sym (same refl)) h
 first_where fs all (Refused r) false same h = absurd (cc h)

@@ -9,7 +9,7 @@ use Rattle.lalrpop_norm_macro_expand_rules.specs.Pending.{met_in_pending, shown_
 use Rattle.lalrpop_norm_macro_expand_rules.proofs.PendingLemmas.{pending_in}
 use Rattle.lalrpop_norm_macro_expand_rules.proofs.pending.read_pending.Given as goal
 
--- what is met of the rules that are left is met of all
+-- what is reached of the rules that are left is reached of all
 abbrev pub invariant-loop-place : goal.invariant-loop-place
 invariant-loop-place l = record {
   table : IsNodeTable l.table;

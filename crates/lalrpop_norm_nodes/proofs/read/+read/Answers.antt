@@ -262,7 +262,7 @@ node_of-read_group-requires t c = (to_group t c.args.kind.now _ c.in-Expr.is c.d
 pub node_of-read_call-requires : goal.node_of-read_call-requires
 node_of-read_call-requires t c = (to_call t c.args.kind.now _ c.in-Macro.is c.decreases, (c.requires.table, (c.requires.counted, c.requires.given)))
 
--- ---- and their errors, handed on
+-- ---- and their errors, passed on
 
 pub node_of-returns-in_err-clone-in-Nonterminal : goal.node_of-returns-in_err-clone-in-Nonterminal
 node_of-returns-in_err-clone-in-Nonterminal t c =

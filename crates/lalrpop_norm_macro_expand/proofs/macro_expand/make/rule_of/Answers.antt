@@ -59,7 +59,7 @@ returns-in_ok-pending-in-Repeat c =
     c.deref_mut.result.now c.args.head.name (repeat_is c.args.kind.now c.in-Repeat.repeat c.deref_mut.result.now c.in-Repeat.is c.deref_mut.ensures.value) c.requires.name
     c.without_call.ensures e.refuses e.pending e.readable
 
--- ---- lookarounds
+-- ---- location symbols
 
 pub returns-in_err-rule-in-Lookahead : goal.returns-in_err-rule-in-Lookahead
 returns-in_err-rule-in-Lookahead c =
