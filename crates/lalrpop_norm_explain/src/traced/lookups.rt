@@ -38,6 +38,13 @@ impl Traced {
         &self.grammar
     }
 
+    /// The origins of the actions, by their numbers.
+    pub fn origins(&self) -> &[Origin]
+        ensures { map origin_view result.now ≡ origins_in self.now }
+    {
+        &self.origins
+    }
+
     /// Whether the name is that of an enabled written rule without arguments.
     pub fn is_rule(&self, name: &NonterminalString) -> bool
         ensures { result ≡ is_root self.now name.now.0 }
