@@ -3,7 +3,7 @@
  * The library is crates/lnorm_c/out/liblnorm_c.a. It calls malloc, realloc and free of the program that links it, through the
  * toolchain's c/liblibc_c.a, and nothing else. docs/use/FROM_RUST_AND_C.md says how to make and link both.
  *
- * Nothing is kept between calls, and nothing is handed out that the caller must free. Calls may run at once, in any threads.
+ * Calls keep no state, and the caller frees nothing that they answer. Calls may run at once, in any threads.
  *
  * What the caller owes, which nothing checks:
  *
@@ -12,7 +12,7 @@
  * - malloc, realloc and free are those of one allocator, and what malloc and realloc give is aligned to each power of two, up to 16,
  *   that divides its size.
  * - No call is made in a signal handler, nor in the forked child of a process with threads.
- * - There is stack enough: docs/use/FROM_RUST_AND_C.md has figures.
+ * - The stack is large enough: docs/use/FROM_RUST_AND_C.md has figures.
  * - The names below, and rattle_alloc, rattle_realloc and rattle_dealloc, mean the functions of these two archives alone.
  */
 #ifndef LNORM_H
@@ -25,15 +25,15 @@
 extern "C" {
 #endif
 
-/* The statuses. */
+/* The statuses: the exit statuses of the programs (docs/use/FORMATS.md). */
 enum {
     /* The output is the lines that were asked for; there is no line of faults. */
     LNORM_DONE = 0,
-    /* The grammar, or the tree that is to be explained, has a fault, which the line of faults tells by number and place. */
+    /* The grammar, or the tree that is to be explained, has a fault. The line of faults has its error code, and its span or path. */
     LNORM_FAULT = 1,
-    /* The words are no options, or the input is no tree; the line of faults tells which. */
+    /* The arguments are no options, or the input is no tree; the line of faults says which. */
     LNORM_REFUSED = 2,
-    /* There was no memory, or a pattern of the grammar is past the size that a regular expression may have; the line of faults is
+    /* An allocation failed, or a pattern of the grammar is past the size that a regular expression may have; the line of faults is
      * "lnorm: out of memory\n". */
     LNORM_NO_MEMORY = 3
 };
@@ -42,35 +42,37 @@ enum {
 struct lnorm_answer {
     /* One of the statuses above. */
     uint8_t status;
-    /* How many bytes the whole output has: 0 with each status but LNORM_DONE. Where that is more than the room of the buffer, the buffer
-     * has the front of it, and a second call with that much room gets the whole. */
+    /* How many bytes the whole output has: 0 with each status but LNORM_DONE. If that is more than the room of the buffer, the buffer
+     * has a beginning of it, and a second call with that much room gets the whole. */
     size_t output_size;
-    /* The same of the line of faults, which ends with a line feed: 0 with LNORM_DONE. */
+    /* How many bytes the whole line of faults has, with its line feed: 0 with LNORM_DONE. */
     size_t faults_size;
 };
 
 /* Lowers a grammar.
  *
- * words    the options of the program lnorm (docs/use/FORMATS.md), as "--limit", "50", "--origins": UTF-8, each ended by a zero byte,
- *          the last one too. None: the size 0.
+ * words    the arguments of the program lnorm (docs/use/FORMATS.md), as "--limit", "50", "--origins": UTF-8, each ended by a zero byte,
+ *          the last one included. Without arguments the size is 0.
  * input    a tree in JSON (docs/use/FORMATS.md).
- * output   the lines of the lowered grammar, each ended by a line feed; not ended by a zero byte.
+ * output   the lines of the lowered grammar, each ended by a line feed; not ended by a zero byte. What they do not show, as which
+ *          nonterminals are inline, is listed there.
  * faults   the line of faults, as that of the program on standard error.
  *
- * A buffer without room may be given to ask for a size. What is behind a text in its buffer stays as it was. */
+ * A buffer may have no room: then the call answers the size. What is behind a text in its buffer stays as it was. */
 struct lnorm_answer lnorm_run(
     const char *words, size_t words_size,
     const char *input, size_t input_size,
     char *output, size_t output_room,
     char *faults, size_t faults_room);
 
-/* Takes a derivation tree of the lowered grammar back to the grammar as it was written, as the program lexplain does with the word explain.
+/* Takes a derivation tree of the lowered grammar back to the grammar as it was written, as `lexplain explain` does.
  *
- * words    options as above, but --origins.
+ * words    arguments as above, without --origins.
  * grammar  a tree in JSON.
- * lines    the derivation tree, in lines of JSON (docs/use/FORMATS.md).
+ * lines    the derivation tree, before inlining, in lines of JSON (docs/use/FORMATS.md).
  * output   the tree of the grammar as it was written, in such lines.
- * faults   a line that says why there is none: a fault of the grammar, as above; or of the tree, as "X3 /0/1\n"; or of what was given. */
+ * faults   a line that says why there is none: a fault of the grammar, as above; or of the tree, as "X3 /0/1\n" (docs/use/FAULTS.md); or
+ *          that the arguments or the input are wrong. */
 struct lnorm_answer lnorm_explain(
     const char *words, size_t words_size,
     const char *grammar, size_t grammar_size,
@@ -78,11 +80,11 @@ struct lnorm_answer lnorm_explain(
     char *output, size_t output_room,
     char *faults, size_t faults_room);
 
-/* The version of the forms, of trees and of lines (docs/use/FORMATS.md). */
+/* The version of the forms of trees and lines (docs/use/FORMATS.md). */
 uint32_t lnorm_form_version(void);
 
-/* The toolchain that the library was proved and built with: the front of its line, without a line feed, goes into the buffer, and its whole
- * size is answered. */
+/* The toolchain that the library was proved and built with. Its line, without a line feed, is put into the buffer, as much as there is room
+ * for; the answer is the size of the whole line. */
 size_t lnorm_toolchain(char *line, size_t room);
 
 #ifdef __cplusplus

@@ -1,4 +1,4 @@
-/* Prints the lowered grammar of a tree in JSON, or its fault:  normalize TREE.json [WORD..] */
+/* Prints the lowered grammar of a tree in JSON, or its fault:  normalize TREE.json [ARGUMENT..] */
 #include <stdio.h>
 #include <stdlib.h>
 #include <string.h>
@@ -17,7 +17,7 @@ int main(int count, char **call) {
         memcpy(words + words_size, call[i], size);
         words_size += size;
     }
-    /* The first call has no room for the output, and is told how much it needs. */
+    /* The first call has no room for the output, and answers how much it needs. */
     struct lnorm_answer asked = lnorm_run(words, words_size, tree, tree_size, none, 0, faults, sizeof faults);
     if (asked.status != LNORM_DONE) {
         fwrite(faults, 1, asked.faults_size < sizeof faults ? asked.faults_size : sizeof faults, stderr);

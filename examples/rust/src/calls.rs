@@ -61,7 +61,7 @@ impl Status {
 pub(crate) fn run(words: &[u8], input: &[u8]) -> (Status, Vec<u8>, Vec<u8>) {
     // The lines are mostly shorter than a quarter of the tree.
     with_buffers(input.len() / 4, |output, faults| {
-        // SAFETY: each pointer and size are those of one slice, which is borrowed for the call, those of the buffers alone.
+        // SAFETY: each pointer and size are those of one slice, which is borrowed for the call, those of the buffers mutably.
         // A slice's pointer is not null. The allocator is that of the C library, and no call is made in a signal handler.
         unsafe {
             lnorm_run(
@@ -108,13 +108,13 @@ pub fn form_version() -> u32 {
 /// The toolchain that the library was proved and built with.
 pub fn toolchain() -> String {
     let mut line = vec![0; 256];
-    // SAFETY: the pointer and the size are those of one slice, which is borrowed for the call alone.
+    // SAFETY: the pointer and the size are those of one slice, which is borrowed mutably for the call.
     let size = unsafe { lnorm_toolchain(line.as_mut_ptr(), line.len()) };
     line.truncate(size);
     String::from_utf8_lossy(&line).into_owned()
 }
 
-/// Calls with that much room for the output, and where either buffer was too small once more, with the room that the first call told.
+/// Calls with that much room for the output; if a buffer was too small, once more, with the sizes that the first call answered.
 fn with_buffers<F: Fn(&mut [u8], &mut [u8]) -> Answer>(room: usize, call: F) -> (Status, Vec<u8>, Vec<u8>) {
     let (mut output, mut faults) = (vec![0; room], vec![0; 1024]);
     let mut answer = call(&mut output, &mut faults);

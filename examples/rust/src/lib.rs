@@ -1,7 +1,10 @@
 //! Safe Rust over the proved normalizer of LALRPOP grammars, which is linked as a static library.
 //!
-//! [`normalize`] lowers a grammar, and takes the printed lines apart; [`lowered_text`] hands them out as they are printed. [`explain`] goes
+//! [`normalize`] lowers a grammar, and takes the printed lines apart; [`lowered_text`] answers them as they are printed. [`explain`] goes
 //! back, from a derivation tree of the lowered grammar to the grammar as it was written.
+//!
+//! The lines are all that there is of the lowered grammar: `docs/use/FORMATS.md` lists what they do not show, as which nonterminals are
+//! `inline`.
 
 mod calls;
 mod lines;
@@ -13,12 +16,14 @@ use calls::Status;
 
 /// A lowered grammar.
 ///
-/// `tree` is a tree in JSON, `limit` how many rounds of expansion may make new rules (200 is LALRPOP's), and `features` are those that are
-/// on, for conditions of the grammar.
+/// `tree` is a tree in JSON, `limit` how many rounds of expansion may generate nonterminals (200 is LALRPOP's), and `features` are those
+/// that are on, for each `cfg` of the grammar.
+///
+/// Lines are taken apart by their form. If a written name holds `, `, ` = ` or a line feed, its productions are wrong or left out.
 ///
 /// # Errors
 ///
-/// The first fault of the grammar; or that the text is no tree, that a feature has a zero byte in it, or that there was no memory.
+/// The first fault of the grammar; or the text is no tree, a feature holds a zero byte, or an allocation failed.
 pub fn normalize(tree: &str, limit: u16, features: &[&str]) -> Result<Lowered, Fault> {
     Ok(Lowered::from_lines(&lowered_text(tree, limit, features)?))
 }
@@ -29,8 +34,8 @@ pub fn lowered_text(tree: &str, limit: u16, features: &[&str]) -> Result<String,
     answered(calls::run(&words, tree.as_bytes()))
 }
 
-/// The lines of the tree of the grammar as it was written that a derivation tree of the lowered grammar stands for; `lines` are those of
-/// the derivation tree. The other arguments are those of [`normalize`].
+/// The lines of the tree of the grammar as it was written that corresponds to a derivation tree of the lowered grammar, before inlining;
+/// `lines` are those of the derivation tree. The other arguments are those of [`normalize`].
 ///
 /// # Errors
 ///
@@ -40,7 +45,7 @@ pub fn explain(tree: &str, lines: &str, limit: u16, features: &[&str]) -> Result
     answered(calls::explain(&words, tree.as_bytes(), lines.as_bytes()))
 }
 
-/// The words of a call, each ended by a zero byte. A feature with a zero byte in it is none.
+/// The arguments of a call, each ended by a zero byte. A feature with a zero byte in it is none.
 fn words_of(limit: u16, features: &[&str]) -> Result<Vec<u8>, Fault> {
     let mut words = format!("--limit\0{limit}\0").into_bytes();
     for feature in features {

@@ -15,9 +15,9 @@ pub struct Lowered {
 /// A production.
 #[derive(Clone, Debug, PartialEq, Eq)]
 pub struct Production {
-    /// What it is of.
+    /// Its left side.
     pub nonterminal: String,
-    /// What it is made of, none where it is empty.
+    /// Its symbols, none if it is empty. Terminals and nonterminals are not told apart.
     pub symbols: Vec<String>,
     /// The number of its action function.
     pub action: usize,
@@ -37,21 +37,21 @@ impl fmt::Display for Production {
 /// Why there is no lowered grammar.
 #[derive(Clone, Debug, PartialEq, Eq)]
 pub enum Fault {
-    /// The grammar has a fault, or the tree that was to be explained: its number, as `F27` or `X3`; and where it stands and what is wrong,
-    /// as `301..302: ..`, or the child places that lead to it, as `/0/1`.
+    /// The grammar, or the tree that was to be explained, has a fault: its error code, as `F27` or `X3`, with its span and message, as
+    /// `301..302: ..`, or the child indexes that lead to it, as `/0/1`.
     Told {
-        /// The number.
+        /// The error code.
         code: String,
-        /// The bytes of the grammar's text at which it stands, of a fault of a grammar.
+        /// The bytes of the grammar's text, of a fault of a grammar.
         span: Option<(usize, usize)>,
-        /// The message, or the way to it.
+        /// The message, or the path in the tree.
         message: String,
     },
-    /// The texts are not what is asked for: the line that says so.
+    /// Arguments or input are wrong: the line that says so.
     Refused(String),
     /// That is no feature: it has a zero byte in it.
     NoFeature(String),
-    /// There was no memory, or a pattern is past the size that a regular expression may have.
+    /// An allocation failed, or a pattern is past the size that a regular expression may have.
     NoMemory,
 }
 
@@ -78,7 +78,7 @@ impl fmt::Display for Fault {
 impl std::error::Error for Fault {}
 
 impl Fault {
-    /// What a line of faults says.
+    /// The fault of a line of faults.
     pub(crate) fn from_line(line: &str) -> Fault {
         let line = line.strip_suffix('\n').unwrap_or(line);
         let (code, rest) = line.split_once(' ').unwrap_or((line, ""));
@@ -94,7 +94,7 @@ impl Fault {
     }
 }
 
-/// The span that a text as `12..20` is.
+/// The span of a text such as `12..20`.
 fn span_of(text: &str) -> Option<(usize, usize)> {
     let (from, to) = text.split_once("..")?;
     Some((from.parse().ok()?, to.parse().ok()?))

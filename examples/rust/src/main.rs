@@ -1,4 +1,4 @@
-//! Prints the productions of grammars, or their faults with their places:  lnorm TREE.json..
+//! Prints the productions of grammars, or their faults with their spans:  lnorm TREE.json..
 use lnorm::{normalize, Fault};
 use std::{env, fs, process::ExitCode};
 
