@@ -10,6 +10,7 @@ ghost use Rattle.lalrpop_norm_conditions.specs.Laws.{OperatorsSay, ValuesAreOfLi
 
 use lalrpop_norm_tree::grammar::parse_tree::ConditionOp;
 use regex::Regex;
+use regex_syntax::{Config, ErrorKind};
 use std::alloc::{AllocError, Global};
 
 /// Why a condition got no value.
@@ -67,6 +68,22 @@ fn finds(alloc: Global, pattern: &str, text: &str) -> Result<bool, ConditionErro
     };
     let mut matcher = regex.matcher(alloc)?;
     Ok(matcher.is_match(text))
+}
+
+/// Why a pattern has no reading, in the words of `regex`, for messages.
+pub fn reason(alloc: Global, pattern: &str) -> Result<String, AllocError> {
+    match regex_syntax::parse(alloc, pattern, &Config::default()) {
+        Ok(_) => format!(in alloc; "it has a reading"),
+        Err(error) => match error.kind {
+            ErrorKind::OutOfMemory => Err(AllocError),
+            _ => format!(in alloc;
+                "{}, at bytes {}..{} of the pattern",
+                error.kind.message(),
+                error.span.start,
+                error.span.end
+            ),
+        },
+    }
 }
 
 /// Operators compare texts, or say whether a pattern matches somewhere in a literal. A condition has a value if and only if its

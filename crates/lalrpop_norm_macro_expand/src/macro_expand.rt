@@ -33,11 +33,12 @@ use lalrpop_norm_macro_expand_rules::items::read_items;
 use lalrpop_norm_macro_expand_rules::macros::without_macros;
 use lalrpop_norm_macro_expand_rules::names::declared_names;
 use lalrpop_norm_macro_expand_rules::pending::read_pending;
+use lalrpop_norm_macro_expand_rules::shortened::shortened_symbol;
 use lalrpop_norm_nodes::digest::seeded_by;
 use lalrpop_norm_nodes::table::{Table, Waiting};
 use lalrpop_norm_resolve::resolve::resolve;
-use lalrpop_norm_tree::grammar::parse_tree::{Grammar, GrammarItem, NoMemory};
-use std::alloc::Global;
+use lalrpop_norm_tree::grammar::parse_tree::{Grammar, GrammarItem, NoMemory, Symbol};
+use std::alloc::{AllocError, Global};
 use std::mem;
 
 /// How much an expansion did.
@@ -51,8 +52,15 @@ pub struct Counts {
     pub texts: usize,
 }
 
+fn cap_message(alloc: Global, limit: u16, last: &Symbol) -> Result<String, AllocError> {
+    let last = shortened_symbol(alloc, last)?;
+    format!(in alloc;
+        "the expansion needs more rounds than the limit of {limit} (`--limit`): raise the limit, or, if a macro calls itself with ever larger arguments, end it; the last new symbol is `{last}`"
+    )
+}
+
 /// The error for a new symbol past the cap, at the symbol reached last.
-fn past_cap(alloc: Global, waiting: &[Waiting]) -> NormFailure
+fn past_cap(alloc: Global, limit: u16, waiting: &[Waiting]) -> NormFailure
     requires { 0 < length waiting.now }
     ensures { IsFirst (past_cap (map (λ w. symbol_view w.symbol) waiting.now)) result }
 {
@@ -60,16 +68,14 @@ fn past_cap(alloc: Global, waiting: &[Waiting]) -> NormFailure
     refusal(
         FaultKind::RecursionCap,
         last.span,
-        format!(in alloc;
-            "`{last}` is past the limit of rounds: end the macro that calls itself with ever larger arguments, or raise the limit"
-        ),
+        cap_message(alloc, limit, last),
     )
 }
 
 /// Whether the worklist is empty, which ends the rounds.
 ///
 /// Errors: F36 (`RecursionCap`) if the worklist is not empty, and no round is left.
-fn is_ended(alloc: Global, waiting: &[Waiting], left: u16) -> NormResult<bool>
+fn is_ended(alloc: Global, limit: u16, waiting: &[Waiting], left: u16) -> NormResult<bool>
     ensures refuses { Refuses result (if left == 0 then past_cap (map (λ w. symbol_view w.symbol) waiting.now) else []) }
     ensures ended { IfOk result (λ b. b ≡ true → waiting.now ≡ []) }
     ensures goes_on { IfOk result (λ b. b ≡ false → (0 < left) × (0 < length waiting.now)) }
@@ -78,7 +84,7 @@ fn is_ended(alloc: Global, waiting: &[Waiting], left: u16) -> NormResult<bool>
         return Ok(true);
     }
     if left == 0 {
-        return Err(past_cap(alloc, waiting));
+        return Err(past_cap(alloc, limit, waiting));
     }
     Ok(false)
 }
@@ -180,7 +186,7 @@ fn expand_rounds(alloc: Global, grammar: Grammar, limit: u16) -> NormResult<Expa
     // The label is the loop's name in the proof, which has its invariant and its measure.
     'rounds: loop {
         let waiting = table.take_waiting(alloc);
-        if is_ended(alloc, &waiting, left)? {
+        if is_ended(alloc, limit, &waiting, left)? {
             grammar.items = done;
             return Ok(Expanded {
                 grammar,

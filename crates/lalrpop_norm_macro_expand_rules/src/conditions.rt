@@ -10,13 +10,14 @@ ghost use Rattle.lalrpop_norm_model.specs.MadeRules.{flat_reader, argument_kind}
 ghost use Rattle.lalrpop_norm_macro_expand_rules.specs.Bound.{AreByNumber};
 ghost use Rattle.lalrpop_norm_macro_expand_rules.specs.Conditions.{quoted_text, value_faults};
 
-use crate::substituted::{Bindings, bound_to};
-use lalrpop_norm_conditions::{ConditionError, holds};
+use crate::shortened::{shortened, shortened_symbol};
+use crate::substituted::{Bindings, bound_to, symbol_bound};
+use lalrpop_norm_conditions::{ConditionError, holds, reason};
 use lalrpop_norm_faults::{FaultKind, NormFailure, NormResult, refusal};
 use lalrpop_norm_tree::grammar::parse_tree::{
     Atom, Condition, NonterminalString, SymbolKind, TerminalLiteral, TerminalString,
 };
-use std::alloc::Global;
+use std::alloc::{AllocError, Global};
 
 fn quoted(token: &TerminalString) -> Option<&Atom>
     ensures { option_map (λ t. t.now) result ≡ quoted_text (Some (terminal token.now)) }
@@ -50,6 +51,13 @@ fn literal_bound<'a>(bindings: &Bindings<'a>, name: &NonterminalString) -> Optio
     }
 }
 
+fn pattern_message(alloc: Global, pattern: &str) -> Result<String, AllocError> {
+    let reason = reason(alloc, pattern)?;
+    format!(in alloc;
+        "`{pattern}` can't be read as a regular expression ({reason}): correct the pattern of this condition"
+    )
+}
+
 /// What a condition says of a literal.
 ///
 /// Errors: F34 (`ConditionPattern`) if a pattern is asked for and has no reading; `Memory`.
@@ -63,20 +71,37 @@ fn says(alloc: Global, condition: &Condition, literal: &Atom) -> NormResult<bool
         Err(ConditionError::NoReading) => Err(refusal(
             FaultKind::ConditionPattern,
             condition.span,
-            format!(in alloc;
-                "`{pattern}` is no regular expression, or nests too deep: correct the pattern of this condition"
-            ),
+            pattern_message(alloc, pattern),
         )),
         Err(ConditionError::Memory) => Err(NormFailure::Memory),
     }
 }
 
-/// Whether an alternative's condition is true or absent.
+fn argument_message(
+    alloc: Global,
+    bindings: &Bindings,
+    call: &Atom,
+    name: &NonterminalString,
+) -> Result<String, AllocError> {
+    let call = shortened(alloc, call.as_str())?;
+    let Some(symbol) = symbol_bound(bindings, name) else {
+        return format!(in alloc;
+            "in `{call}` this condition tests `{name}`, which is no argument: name an argument of the macro"
+        );
+    };
+    let symbol = shortened_symbol(alloc, symbol)?;
+    format!(in alloc;
+        "in `{call}` this condition tests `{symbol}`, which is no quoted literal: call the macro with a quoted literal for `{name}`"
+    )
+}
+
+/// Whether an alternative's condition is true or absent, in the macro call of that text.
 ///
 /// Errors: F33 (`ConditionArgument`) if its left operand is bound to no quoted literal; F34 (`ConditionPattern`); `Memory`.
 pub fn is_kept(
     alloc: Global,
     bindings: &Bindings,
+    call: &Atom,
     condition: &Option<Condition>,
 ) -> NormResult<bool>
     requires numbers { AreByNumber bindings.now }
@@ -91,10 +116,7 @@ pub fn is_kept(
         None => Err(refusal(
             FaultKind::ConditionArgument,
             condition.span,
-            format!(in alloc;
-                "a condition tests quoted literals, and a call gives `{}` another symbol: call the macro with a literal",
-                condition.lhs
-            ),
+            argument_message(alloc, bindings, call, &condition.lhs),
         )),
     }
 }

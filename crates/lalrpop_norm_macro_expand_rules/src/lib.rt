@@ -12,5 +12,6 @@ pub mod names;
 pub mod pending;
 mod reading;
 pub mod rules;
+pub mod shortened;
 mod sources;
 pub mod substituted;

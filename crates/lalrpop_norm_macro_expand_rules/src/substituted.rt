@@ -26,7 +26,10 @@ pub struct Bindings<'a> {
 }
 
 /// The symbol at the index of a name, if it is that of an argument.
-fn symbol_bound<'a>(bindings: &Bindings<'a>, name: &NonterminalString) -> Option<&'a Symbol>
+pub(crate) fn symbol_bound<'a>(
+    bindings: &Bindings<'a>,
+    name: &NonterminalString,
+) -> Option<&'a Symbol>
     ensures { option_map (λ s. s.now) result ≡ bound_in bindings.now name.now.0 }
 {
     let place = bindings.numbers.number(name)?;

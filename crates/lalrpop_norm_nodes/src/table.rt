@@ -45,14 +45,23 @@ pub struct Table {
     no_symbols: usize,
 }
 
-fn shared_name(alloc: Global, name: &Atom, span: Span) -> NormFailure
+fn shared_name(alloc: Global, name: &Atom, span: Span, is_declared: bool) -> NormFailure
     ensures { IsFirst ((SharedName, span) ∷ []) result }
 {
+    if is_declared {
+        return refusal(
+            FaultKind::SharedName,
+            span,
+            format!(in alloc;
+                "the nonterminal that is generated for `{name}` would have the name of a rule: rename that rule"
+            ),
+        );
+    }
     refusal(
         FaultKind::SharedName,
         span,
         format!(in alloc;
-            "a rule would be made for `{name}`, and something else has that name already: rename the one or the other"
+            "another symbol has the text `{name}` too, and the two would be one generated nonterminal: rename a part in which they differ"
         ),
     )
 }
@@ -186,7 +195,8 @@ impl Table {
         let _nodes = self.nodes.rows.len();
         let name = make_text(alloc, symbol, &mut self.made)?;
         if self.is_taken(&name) {
-            return Err(shared_name(alloc, &name, symbol.span));
+            let is_declared = self.names.contains(&name);
+            return Err(shared_name(alloc, &name, symbol.span, is_declared));
         }
         Ok(name)
     }

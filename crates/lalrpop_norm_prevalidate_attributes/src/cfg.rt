@@ -36,14 +36,48 @@ fn test_of(name: &str) -> Test
     }
 }
 
-fn malformed(alloc: Global, span: Span) -> NormFailure
+/// The refusal of a `feature` without a text.
+fn without_text(alloc: Global, span: Span) -> NormFailure
+    ensures { IsFirst ((FaultKind.MalformedCfg, span) ∷ []) result }
+{
+    refusal(
+        FaultKind::MalformedCfg,
+        span,
+        format!(in alloc; "`feature` takes a text: write `feature = \"..\"`"),
+    )
+}
+
+/// The refusal of a `cfg`, `not`, `any` or `all` without brackets.
+fn without_brackets(alloc: Global, name: &str, span: Span) -> NormFailure
+    ensures { IsFirst ((FaultKind.MalformedCfg, span) ∷ []) result }
+{
+    refusal(
+        FaultKind::MalformedCfg,
+        span,
+        format!(in alloc; "`{name}` takes a condition in brackets, as `{name}(feature = \"..\")`"),
+    )
+}
+
+/// The refusal of a `cfg`, `not`, `any` or `all` with nothing in its brackets.
+fn without_condition(alloc: Global, name: &str, span: Span) -> NormFailure
+    ensures { IsFirst ((FaultKind.MalformedCfg, span) ∷ []) result }
+{
+    refusal(
+        FaultKind::MalformedCfg,
+        span,
+        format!(in alloc; "`{name}` needs at least one condition, as `{name}(feature = \"..\")`"),
+    )
+}
+
+/// The refusal of a name that no condition has.
+fn unknown_name(alloc: Global, name: &str, span: Span) -> NormFailure
     ensures { IsFirst ((FaultKind.MalformedCfg, span) ∷ []) result }
 {
     refusal(
         FaultKind::MalformedCfg,
         span,
         format!(in alloc;
-            "a `cfg` takes `feature = \"..\"`, or `not`, `any` or `all` with conditions in brackets"
+            "`{name}` is no condition of a `cfg`: write `feature = \"..\"`, `not(..)`, `any(..)` or `all(..)`"
         ),
     )
 }
@@ -53,49 +87,70 @@ fn check_attribute(alloc: Global, attribute: &Attribute) -> NormResult<()>
     ensures { Refuses result (test_faults (attribute_view attribute.now)) }
 {
     let test = test_of(attribute.id.as_str());
-    check_arg(alloc, test, attribute.id_span, &attribute.arg)
+    check_arg(
+        alloc,
+        test,
+        attribute.id.as_str(),
+        attribute.id_span,
+        &attribute.arg,
+    )
 }
 
 #[cycle(cfg)]
-fn check_arg(alloc: Global, test: Test, span: Span, arg: &AttributeArg) -> NormResult<()>
+fn check_arg(
+    alloc: Global,
+    test: Test,
+    name: &str,
+    span: Span,
+    arg: &AttributeArg,
+) -> NormResult<()>
     ensures { Refuses result (test_argument_faults test span (argument_view arg.now)) }
 {
     match test {
         Test::Feature => match arg {
             AttributeArg::Equal(_) => Ok(()),
-            AttributeArg::Empty | AttributeArg::Paren(_) => Err(malformed(alloc, span)),
+            AttributeArg::Empty | AttributeArg::Paren(_) => Err(without_text(alloc, span)),
         },
         Test::Not => match arg {
-            AttributeArg::Paren(attributes) => check_first(alloc, span, attributes),
-            AttributeArg::Empty | AttributeArg::Equal(_) => Err(malformed(alloc, span)),
+            AttributeArg::Paren(attributes) => check_first(alloc, name, span, attributes),
+            AttributeArg::Empty | AttributeArg::Equal(_) => {
+                Err(without_brackets(alloc, name, span))
+            }
         },
         Test::Several => match arg {
             AttributeArg::Paren(attributes) => {
-                check_not_empty(alloc, span, attributes)?;
+                check_not_empty(alloc, name, span, attributes)?;
                 check_each(alloc, attributes)
             }
-            AttributeArg::Empty | AttributeArg::Equal(_) => Err(malformed(alloc, span)),
+            AttributeArg::Empty | AttributeArg::Equal(_) => {
+                Err(without_brackets(alloc, name, span))
+            }
         },
-        Test::Unknown => Err(malformed(alloc, span)),
+        Test::Unknown => Err(unknown_name(alloc, name, span)),
     }
 }
 
 #[cycle(cfg)]
-fn check_first(alloc: Global, span: Span, attributes: &[Attribute]) -> NormResult<()>
+fn check_first(alloc: Global, name: &str, span: Span, attributes: &[Attribute]) -> NormResult<()>
     ensures { Refuses result (first_test_faults span (attributes_view attributes.now)) }
 {
     match attributes.first() {
         Some(attribute) => check_attribute(alloc, attribute),
-        None => Err(malformed(alloc, span)),
+        None => Err(without_condition(alloc, name, span)),
     }
 }
 
 #[tactic(auto, unfolding(crate::specs::CfgFaults::empty_faults), using(crate::proofs::EmptyLemmas::no_empty_faults))]
-fn check_not_empty(alloc: Global, span: Span, attributes: &[Attribute]) -> NormResult<()>
+fn check_not_empty(
+    alloc: Global,
+    name: &str,
+    span: Span,
+    attributes: &[Attribute],
+) -> NormResult<()>
     ensures { Refuses result (empty_faults span (attributes_view attributes.now)) }
 {
     if attributes.is_empty() {
-        return Err(malformed(alloc, span));
+        return Err(without_condition(alloc, name, span));
     }
     Ok(())
 }
@@ -117,7 +172,7 @@ pub fn validate_cfg(alloc: Global, span: Span, arg: &AttributeArg) -> NormResult
     ensures { Refuses result (cfg_faults span (argument_view arg.now)) }
 {
     // A `cfg` takes what `not` takes.
-    check_arg(alloc, Test::Not, span, arg)
+    check_arg(alloc, Test::Not, "cfg", span, arg)
 }
 
 /// Checks an attribute, if it is a `cfg`.

@@ -118,7 +118,7 @@ fn check_symbol(alloc: Global, types: &Numbered, tuple: &Tuple, symbol: &Symbol)
             FaultKind::TupleOverSymbol,
             symbol.span,
             format!(in alloc;
-                "a tuple of names stands before `{symbol}`, which is no nonterminal: name it by one name"
+                "a tuple of names stands before `{symbol}`, which is no nonterminal: give it one name, and take the value apart in the action code"
             ),
         )),
     }

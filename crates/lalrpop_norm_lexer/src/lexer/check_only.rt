@@ -58,7 +58,12 @@ fn hir_of(alloc: Global, pattern: &str) -> Result<Hir, RegexError>
         Err(error) => match error.kind {
             ErrorKind::OutOfMemory => return Err(RegexError::Memory),
             _ => return Err(RegexError::Refused {
-                message: format!(in alloc; "{error}")?,
+                message: format!(in alloc;
+                    "{}, at bytes {}..{} of the pattern",
+                    error.kind.message(),
+                    error.span.start,
+                    error.span.end
+                )?,
             }),
         },
     };

@@ -19,7 +19,7 @@ use lalrpop_norm_macro_expand_rules::macros::NumberedMacro;
 use lalrpop_norm_macro_expand_rules::rules::Head;
 use lalrpop_norm_macro_expand_rules::substituted::Bindings;
 use lalrpop_norm_tree::grammar::parse_tree::{
-    Alternative, NonterminalData, NonterminalString, Span, Symbol,
+    Alternative, Atom, NonterminalData, NonterminalString, Span, Symbol,
 };
 use lalrpop_norm_tree_parts::attribute::copy::copy_attributes;
 use std::alloc::Global;
@@ -35,6 +35,7 @@ struct Kept {
 fn add_alternative(
     alloc: Global,
     bindings: &Bindings,
+    call: &Atom,
     span: Span,
     place: usize,
     alternative: &Alternative,
@@ -47,7 +48,7 @@ fn add_alternative(
     ensures places { OnOk result (kept.new.places.items
         ≡ kept.old.places.items ++ kept_place comparison bindings.now.names.now (parts_view bindings.now.symbols.now) place (alternative_view alternative.now)) }
 {
-    let keeps = is_kept(alloc, bindings, &alternative.condition)?;
+    let keeps = is_kept(alloc, bindings, call, &alternative.condition)?;
     if keeps {
         let copy = copied_alternative(alloc, span, alternative)?;
         kept.alternatives.push(copy)?;
@@ -60,6 +61,7 @@ fn add_alternative(
 fn instance_alternatives(
     alloc: Global,
     bindings: &Bindings,
+    call: &Atom,
     span: Span,
     alternatives: &[Alternative],
 ) -> NormResult<Kept>
@@ -73,7 +75,7 @@ fn instance_alternatives(
         places: Vec::new(alloc),
     };
     for (place, alternative) in alternatives.iter().enumerate() {
-        add_alternative(alloc, bindings, span, place, alternative, &mut kept)?;
+        add_alternative(alloc, bindings, call, span, place, alternative, &mut kept)?;
     }
     Ok(kept)
 }
@@ -110,7 +112,7 @@ pub(super) fn instance_rule(
         numbers: &called.numbers,
         symbols: arguments,
     };
-    let kept = instance_alternatives(alloc, &bindings, span, &definition.alternatives)?;
+    let kept = instance_alternatives(alloc, &bindings, &head.name, span, &definition.alternatives)?;
     let type_decl = instance_type(alloc, &bindings, &definition.type_decl)?;
     let rule = NonterminalData {
         visibility: definition.visibility.clone()?,

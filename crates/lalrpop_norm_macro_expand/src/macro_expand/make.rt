@@ -29,6 +29,7 @@ use lalrpop_norm_macro_expand_rules::groups::{group_rule, location_rule};
 use lalrpop_norm_macro_expand_rules::macros::{Macros, NumberedMacro};
 use lalrpop_norm_macro_expand_rules::pending::{Filling, Pending};
 use lalrpop_norm_macro_expand_rules::rules::Head;
+use lalrpop_norm_macro_expand_rules::shortened::{shortened, shortened_symbol};
 use lalrpop_norm_names::Names;
 use lalrpop_norm_nodes::given::Given;
 use lalrpop_norm_nodes::parts::{given_by_call, repeated_number};
@@ -38,7 +39,7 @@ use lalrpop_norm_tree::grammar::parse_tree::{
     ActionKind, Atom, ExprSymbol, GrammarItem, MacroSymbol, NoMemory, NonterminalData, RepeatOp,
     RepeatSymbol, Span, Symbol, SymbolKind,
 };
-use std::alloc::Global;
+use std::alloc::{AllocError, Global};
 use std::mem;
 
 /// What each round needs to generate rules.
@@ -58,6 +59,56 @@ pub(super) fn numbers_of_hole(alloc: Global) -> Result<Names, NoMemory>
     Names::of(alloc, &names)
 }
 
+/// The symbol under the name, or the tuple of names, of a symbol.
+fn inner(symbol: &Symbol) -> Option<&Symbol> {
+    match &symbol.kind {
+        SymbolKind::Name(_, inner) => Some(&**inner),
+        SymbolKind::Tuple(_, inner) => Some(&**inner),
+        SymbolKind::Expr(_)
+        | SymbolKind::AmbiguousId(_)
+        | SymbolKind::Terminal(_)
+        | SymbolKind::Nonterminal(_)
+        | SymbolKind::Macro(_)
+        | SymbolKind::Repeat(_)
+        | SymbolKind::Choose(_)
+        | SymbolKind::Lookahead
+        | SymbolKind::Lookbehind
+        | SymbolKind::Error => None,
+    }
+}
+
+fn group_message(alloc: Global, name: &Atom, symbols: &[Symbol]) -> Result<String, AllocError> {
+    let name = shortened(alloc, name.as_str())?;
+    for symbol in symbols {
+        if let Some(inner) = inner(symbol) {
+            let named = shortened_symbol(alloc, symbol)?;
+            let inner = shortened_symbol(alloc, inner)?;
+            return format!(in alloc;
+                "a symbol in the group `{name}` has a name: write `<{inner}>` in place of `<{named}>`, or write a rule with code for the group"
+            );
+        }
+    }
+    format!(in alloc;
+        "a symbol in the group `{name}` has a name: leave out the name, or write a rule with code for the group"
+    )
+}
+
+fn times_message(alloc: Global, name: &Atom, symbol: &Symbol) -> Result<String, AllocError> {
+    let name = shortened(alloc, name.as_str())?;
+    match inner(symbol) {
+        Some(inner) => {
+            let named = shortened_symbol(alloc, symbol)?;
+            let inner = shortened_symbol(alloc, inner)?;
+            format!(in alloc;
+                "the symbol repeated in `{name}` has a name: write `<{inner}>` in place of `<{named}>`, or write a rule with code for the symbol"
+            )
+        }
+        None => format!(in alloc;
+            "the symbol repeated in `{name}` has a name: leave out the name, or write a rule with code for the symbol"
+        ),
+    }
+}
+
 /// The rule of a group, which takes its symbols.
 fn group_of(alloc: Global, head: Head, expr: &mut ExprSymbol) -> NormResult<NonterminalData>
     requires name { head.name ≡ kind_text (group (expr_view expr.old)) }
@@ -69,10 +120,7 @@ fn group_of(alloc: Global, head: Head, expr: &mut ExprSymbol) -> NormResult<Nont
         return Err(refusal(
             FaultKind::NamedInGroup,
             head.span,
-            format!(in alloc;
-                "a symbol in the group `{}` has a name: leave it out, or write a rule with code for the group",
-                head.name
-            ),
+            group_message(alloc, &head.name, &expr.symbols),
         ));
     }
     let symbols = mem::replace(&mut expr.symbols, Vec::new(alloc));
@@ -97,9 +145,7 @@ fn check_times(
                 return Err(refusal(
                     FaultKind::NamedInTimes,
                     span,
-                    format!(in alloc;
-                        "the symbol repeated in `{name}` has a name: leave it out, or write a rule with code for the symbol"
-                    ),
+                    times_message(alloc, name, symbol),
                 ));
             }
             Ok(())

@@ -137,7 +137,7 @@ fn validate_beside(alloc: Global, symbols: &[Symbol]) -> NormResult<()>
                 FaultKind::ChosenWithNamed,
                 span,
                 format!(in alloc;
-                    "a chosen symbol without a name can't stand beside named ones: name this one too"
+                    "a selected symbol (`<X>`) without a name can't stand beside named ones: name it too, or take its `<` and `>` away"
                 ),
             ));
         }

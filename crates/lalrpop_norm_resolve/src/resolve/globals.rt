@@ -36,11 +36,37 @@ fn declare_items(alloc: Global, globals: &mut GlobalTable, items: &[GrammarItem]
     Ok(())
 }
 
+/// Whether a name ends with a digit, as that of a level does.
+fn ends_with_digit(name: &Atom) -> bool {
+    match name.as_str().as_bytes().last() {
+        Some(byte) => byte.is_ascii_digit(),
+        None => false,
+    }
+}
+
+/// Whether a definition of that name may be a level of a rule.
+fn may_be_level(name: &Atom, def: Def) -> bool {
+    match def {
+        Def::Rule | Def::Macro(_) => ends_with_digit(name),
+        Def::Terminal | Def::MacroArg => false,
+    }
+}
+
 fn declared_twice(alloc: Global, span: Span, name: &Atom, earlier: Def, def: Def) -> NormFailure
     ensures { IsFirst ((FaultKind.NameDeclaredTwice, span) ∷ []) result }
 {
+    let has_level = may_be_level(name, earlier);
     let earlier = earlier.description();
     let what = def.description();
+    if has_level {
+        return refusal(
+            FaultKind::NameDeclaredTwice,
+            span,
+            format!(in alloc;
+                "`{name}` is the name of a {earlier} already, and this {what} has it too: rename one of them (where a rule `E` has levels, `E1` is the name of its level 1)"
+            ),
+        );
+    }
     refusal(
         FaultKind::NameDeclaredTwice,
         span,

@@ -45,14 +45,31 @@ pub(crate) fn unknown(alloc: Global, span: Span, name: &Atom) -> NormFailure
     )
 }
 
+/// What stands in messages for so many arguments of a macro.
+fn arguments(arity: usize) -> &'static str {
+    match arity {
+        1 => "T",
+        2 => "T1, T2",
+        3 => "T1, T2, T3",
+        _ => "..",
+    }
+}
+
+/// What so many arguments are called in messages.
+fn noun(arity: usize) -> &'static str {
+    if arity == 1 { "argument" } else { "arguments" }
+}
+
 fn macro_named(alloc: Global, span: Span, name: &Atom, arity: usize) -> NormFailure
     ensures { IsFirst ((FaultKind.MacroNamed, span) ∷ []) result }
 {
+    let arguments = arguments(arity);
+    let noun = noun(arity);
     refusal(
         FaultKind::MacroNamed,
         span,
         format!(in alloc;
-            "`{name}` is a macro: call it with its arguments, as `{name}<..>` (it takes {arity})"
+            "`{name}` is a macro: call it with its arguments, as `{name}<{arguments}>` (it takes {arity} {noun})"
         ),
     )
 }
@@ -85,11 +102,13 @@ fn terminal_named(alloc: Global, span: Span, name: &Atom) -> NormFailure
 fn bare_macro(alloc: Global, span: Span, name: &Atom, arity: usize) -> NormFailure
     ensures { IsFirst ((FaultKind.NotNonterminal, span) ∷ []) result }
 {
+    let arguments = arguments(arity);
+    let noun = noun(arity);
     refusal(
         FaultKind::NotNonterminal,
         span,
         format!(in alloc;
-            "`{name}` is a macro, and a nonterminal is wanted here: call it with its arguments, as `{name}<..>` (it takes {arity})"
+            "`{name}` is a macro, and a nonterminal is wanted here: call it with its arguments, as `{name}<{arguments}>` (it takes {arity} {noun})"
         ),
     )
 }

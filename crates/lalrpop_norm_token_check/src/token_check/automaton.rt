@@ -9,10 +9,38 @@ ghost use Rattle.lalrpop_norm_token_check.specs.Keys.{place_by};
 
 use lalrpop_norm_faults::{FaultKind, NormFailure, NormResult, refusal};
 use lalrpop_norm_lexer::construct::{ConstructError, construct};
-use lalrpop_norm_lexer::lexer::Lexer;
+use lalrpop_norm_lexer::lexer::{Lexer, NfaConstructionError};
 use lalrpop_norm_tree::grammar::parse_tree::{Dfa, MatchEntry, Span, TerminalLiteral};
-use std::alloc::Global;
+use std::alloc::{AllocError, Global};
 use std::collections::BTreeMap;
+
+fn feature_message(alloc: Global, error: NfaConstructionError) -> Result<String, AllocError> {
+    let feature = match error {
+        NfaConstructionError::NamedCaptures => "a group with a name, as `(?P<name>..)`",
+        NfaConstructionError::NonGreedy => "a repeat that takes as little as it can, as `a*?`",
+        NfaConstructionError::LookAround => "a test of what stands around, as `^`, `$` or `\\b`",
+        NfaConstructionError::ByteRegex => "a byte that is no character, as `(?-u:\\xFF)`",
+    };
+    format!(in alloc;
+        "this regular expression has {feature}, which the tokenizer lacks: write it without"
+    )
+}
+
+fn ambiguity_message(
+    alloc: Global,
+    entries: &[MatchEntry],
+    match0: usize,
+    match1: usize,
+) -> Result<String, AllocError> {
+    let (Some(entry0), Some(entry1)) = (entries.get(match0), entries.get(match1)) else {
+        return format!(in alloc; "two entries match one text, and neither goes before");
+    };
+    let literal0 = &entry0.match_literal;
+    let literal1 = &entry1.match_literal;
+    format!(in alloc;
+        "{literal0} and {literal1} match one text, and neither goes before: put one of them into an earlier block of `match`"
+    )
+}
 
 /// The automaton of the entries. Where they are those of a grammar, and its literals have these spans, an error is a
 /// fault of that grammar.
@@ -38,16 +66,12 @@ pub(super) fn automaton_of<L: Lexer>(
         Err(ConstructError::Unsupported { index, error }) => Err(refusal(
             FaultKind::RegexFeature,
             place_at(places, entries, index),
-            format!(in alloc;
-                "this regular expression has a feature that the tokenizer lacks ({error:?}): write it without"
-            ),
+            feature_message(alloc, error),
         )),
         Err(ConstructError::Ambiguous { match0, match1 }) => Err(refusal(
             FaultKind::Ambiguity,
             place_at(places, entries, match0),
-            format!(in alloc;
-                "the entries {match0} and {match1} of the tokenizer, counted from 0, match one text, and neither goes before: put one of them into an earlier block of `match`"
-            ),
+            ambiguity_message(alloc, entries, match0, match1),
         )),
         Err(ConstructError::Memory) => Err(NormFailure::Memory),
     }

@@ -23,7 +23,7 @@ pub(super) fn check_input(alloc: Global, grammar: &Grammar) -> NormResult<()>
             FaultKind::InputLifetime,
             grammar.span,
             format!(in alloc;
-                "the tokenizer has the lifetime `'input`: give the one that is declared another name"
+                "`'input` is declared by the generated tokenizer: remove it from `grammar<..>`; it can be used without a declaration"
             ),
         ));
     }
@@ -32,7 +32,7 @@ pub(super) fn check_input(alloc: Global, grammar: &Grammar) -> NormResult<()>
             FaultKind::InputParameter,
             grammar.span,
             format!(in alloc;
-                "the tokenizer reads the parameter `input`: give the one that is declared another name"
+                "the parameter `input` is declared by the generated tokenizer: remove it from the grammar's parameters; it can be used without a declaration"
             ),
         ));
     }
