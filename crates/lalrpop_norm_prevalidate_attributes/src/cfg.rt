@@ -36,7 +36,7 @@ fn test_of(name: &str) -> Test
     }
 }
 
-/// The refusal of a `feature` without a text.
+/// The fault of a `feature` without a text.
 fn without_text(alloc: Global, span: Span) -> NormFailure
     ensures { IsFirst ((FaultKind.MalformedCfg, span) ∷ []) result }
 {
@@ -47,7 +47,7 @@ fn without_text(alloc: Global, span: Span) -> NormFailure
     )
 }
 
-/// The refusal of a `cfg`, `not`, `any` or `all` without brackets.
+/// The fault of a `cfg`, `not`, `any` or `all` without brackets.
 fn without_brackets(alloc: Global, name: &str, span: Span) -> NormFailure
     ensures { IsFirst ((FaultKind.MalformedCfg, span) ∷ []) result }
 {
@@ -58,7 +58,7 @@ fn without_brackets(alloc: Global, name: &str, span: Span) -> NormFailure
     )
 }
 
-/// The refusal of a `cfg`, `not`, `any` or `all` with nothing in its brackets.
+/// The fault of a `cfg`, `not`, `any` or `all` with nothing in its brackets.
 fn without_condition(alloc: Global, name: &str, span: Span) -> NormFailure
     ensures { IsFirst ((FaultKind.MalformedCfg, span) ∷ []) result }
 {
@@ -69,7 +69,7 @@ fn without_condition(alloc: Global, name: &str, span: Span) -> NormFailure
     )
 }
 
-/// The refusal of a name that no condition has.
+/// The fault of a name that no condition has.
 fn unknown_name(alloc: Global, name: &str, span: Span) -> NormFailure
     ensures { IsFirst ((FaultKind.MalformedCfg, span) ∷ []) result }
 {

@@ -19,7 +19,7 @@ use lalrpop_norm_macro_expand_rules::macros::NumberedMacro;
 use lalrpop_norm_macro_expand_rules::rules::Head;
 use lalrpop_norm_macro_expand_rules::substituted::Bindings;
 use lalrpop_norm_tree::grammar::parse_tree::{
-    Alternative, Atom, NonterminalData, NonterminalString, Span, Symbol,
+    Alternative, NonterminalData, NonterminalString, Symbol,
 };
 use lalrpop_norm_tree_parts::attribute::copy::copy_attributes;
 use std::alloc::Global;
@@ -35,8 +35,7 @@ struct Kept {
 fn add_alternative(
     alloc: Global,
     bindings: &Bindings,
-    call: &Atom,
-    span: Span,
+    head: &Head,
     place: usize,
     alternative: &Alternative,
     kept: &mut Kept,
@@ -44,13 +43,13 @@ fn add_alternative(
     requires numbers { AreByNumber bindings.now }
     ensures refuses { Refuses result (value_faults (argument_kind bindings.now.names.now (parts_view bindings.now.symbols.now)) alternative.now.condition) }
     ensures adds { OnOk result (map alternative_view kept.new.alternatives.items
-        ≡ map alternative_view kept.old.alternatives.items ++ kept_of span bindings.now.names.now (parts_view bindings.now.symbols.now) (alternative_view alternative.now)) }
+        ≡ map alternative_view kept.old.alternatives.items ++ kept_of head.now.span bindings.now.names.now (parts_view bindings.now.symbols.now) (alternative_view alternative.now)) }
     ensures places { OnOk result (kept.new.places.items
         ≡ kept.old.places.items ++ kept_place comparison bindings.now.names.now (parts_view bindings.now.symbols.now) place (alternative_view alternative.now)) }
 {
-    let keeps = is_kept(alloc, bindings, call, &alternative.condition)?;
+    let keeps = is_kept(alloc, bindings, &head.name, &alternative.condition)?;
     if keeps {
-        let copy = copied_alternative(alloc, span, alternative)?;
+        let copy = copied_alternative(alloc, head.span, alternative)?;
         kept.alternatives.push(copy)?;
         kept.places.push(place)?;
     }
@@ -61,13 +60,12 @@ fn add_alternative(
 fn instance_alternatives(
     alloc: Global,
     bindings: &Bindings,
-    call: &Atom,
-    span: Span,
+    head: &Head,
     alternatives: &[Alternative],
 ) -> NormResult<Kept>
     requires numbers { AreByNumber bindings.now }
     ensures { RefusesOr result (flat_map (λ (a : AlternativeData). value_faults (argument_kind bindings.now.names.now (parts_view bindings.now.symbols.now)) a.condition) (map alternative_view alternatives.now))
-        (λ kept. (map alternative_view kept.alternatives.items ≡ flat_map (kept_of span bindings.now.names.now (parts_view bindings.now.symbols.now)) (map alternative_view alternatives.now))
+        (λ kept. (map alternative_view kept.alternatives.items ≡ flat_map (kept_of head.now.span bindings.now.names.now (parts_view bindings.now.symbols.now)) (map alternative_view alternatives.now))
         × (kept.places.items ≡ kept_places comparison bindings.now.names.now (parts_view bindings.now.symbols.now) 0 (map alternative_view alternatives.now))) }
 {
     let mut kept = Kept {
@@ -75,7 +73,7 @@ fn instance_alternatives(
         places: Vec::new(alloc),
     };
     for (place, alternative) in alternatives.iter().enumerate() {
-        add_alternative(alloc, bindings, call, span, place, alternative, &mut kept)?;
+        add_alternative(alloc, bindings, head, place, alternative, &mut kept)?;
     }
     Ok(kept)
 }
@@ -104,7 +102,6 @@ pub(super) fn instance_rule(
         (λ i. (rule_view i.rule ≡ instance_shape head.name head.span (rule_view called.now.definition) (parts_view arguments.now))
         × (i.kept.items ≡ kept_places comparison called.now.definition.args.items (parts_view arguments.now) 0 (rule_view called.now.definition).alternatives)) }
 {
-    let span = head.span;
     let definition = &called.definition;
     let names: &[NonterminalString] = &definition.args;
     let bindings = Bindings {
@@ -112,13 +109,13 @@ pub(super) fn instance_rule(
         numbers: &called.numbers,
         symbols: arguments,
     };
-    let kept = instance_alternatives(alloc, &bindings, &head.name, span, &definition.alternatives)?;
+    let kept = instance_alternatives(alloc, &bindings, &head, &definition.alternatives)?;
     let type_decl = instance_type(alloc, &bindings, &definition.type_decl)?;
     let rule = NonterminalData {
         visibility: definition.visibility.clone()?,
         name: NonterminalString(head.name),
         attributes: copy_attributes(&definition.attributes)?,
-        span,
+        span: head.span,
         args: Vec::new(alloc),
         type_decl,
         alternatives: kept.alternatives,

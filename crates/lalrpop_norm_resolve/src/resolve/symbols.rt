@@ -45,7 +45,7 @@ pub(crate) fn unknown(alloc: Global, span: Span, name: &Atom) -> NormFailure
     )
 }
 
-/// What stands in messages for so many arguments of a macro.
+/// So many arguments of a macro, as a message shows a call.
 fn arguments(arity: usize) -> &'static str {
     match arity {
         1 => "T",
@@ -55,7 +55,7 @@ fn arguments(arity: usize) -> &'static str {
     }
 }
 
-/// What so many arguments are called in messages.
+/// The noun for so many arguments, in a message.
 fn noun(arity: usize) -> &'static str {
     if arity == 1 { "argument" } else { "arguments" }
 }

@@ -20,7 +20,7 @@ returns-clause-refuses c = c.in_ok-keeps.ensures.0
 pub returns-clause-adds : goal.returns-clause-adds
 returns-clause-adds c =
     let old : List Alternative = c.args.kept.now.alternatives.items in
-    let copied : AlternativeData = copied_alternative c.args.span (alternative_view c.args.alternative.now) in
+    let copied : AlternativeData = copied_alternative c.args.head.now.span (alternative_view c.args.alternative.now) in
     let seen : Kept → List AlternativeData = λ k. map alternative_view k.alternatives.items in
     elim c.if-keeps.branch [
       | then-keeps+in_ok-copy+in_ok-push+in_ok-push-2 w ↦

@@ -33,14 +33,14 @@ loop-place-preserved c =
     let x : Alternative = c.index-alternatives-place.result in
     let i : ℕ = c.loop-place.place in
     let faults : List Alternative → List Fault = λ ys. flat_map (λ (a : AlternativeData). value_faults (argument_kind params args) a.condition) (map alternative_view ys) in
-    let kept : List Alternative → List AlternativeData = λ ys. flat_map (kept_of c.args.span params args) (map alternative_view ys) in
+    let kept : List Alternative → List AlternativeData = λ ys. flat_map (kept_of c.args.head.now.span params args) (map alternative_view ys) in
     let places : ℕ → List Alternative → List ℕ = λ k ys. kept_places comparison params args k (map alternative_view ys) in
     let next : suc i ≡ i + 1 = omega arith in
     let adds = c.in_ok-add_alternative.ensures in
     record {
       refuses = one_further xs i faults faults x x (value_faults (argument_kind params args) x.condition) [] [] (faults xs)
           c.loop-place-test.true c.index-alternatives-place.is refl (sym adds.refuses) c.loop-place.invariant.refuses;
-      kept = one_further xs i kept kept x x (kept_of c.args.span params args (alternative_view x)) _ _ (kept xs)
+      kept = one_further xs i kept kept x x (kept_of c.args.head.now.span params args (alternative_view x)) _ _ (kept xs)
           c.loop-place-test.true c.index-alternatives-place.is refl adds.adds c.loop-place.invariant.kept;
       places = one_further xs i (places i) (places (i + 1)) x x (kept_place comparison params args i (alternative_view x)) _ _ (places 0 xs)
           c.loop-place-test.true c.index-alternatives-place.is

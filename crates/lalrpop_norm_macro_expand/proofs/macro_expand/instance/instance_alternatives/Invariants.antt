@@ -13,8 +13,8 @@ abbrev pub invariant-loop-place : goal.invariant-loop-place
 invariant-loop-place l = record {
   refuses : flat_map (λ (a : AlternativeData). value_faults (argument_kind l.bindings.names.now (parts_view l.bindings.symbols.now)) a.condition) (map alternative_view (drop l.place l.alternatives))
       ≡ flat_map (λ (a : AlternativeData). value_faults (argument_kind l.bindings.names.now (parts_view l.bindings.symbols.now)) a.condition) (map alternative_view l.alternatives);
-  kept : map alternative_view l.kept.alternatives.items ++ flat_map (kept_of l.span l.bindings.names.now (parts_view l.bindings.symbols.now)) (map alternative_view (drop l.place l.alternatives))
-      ≡ flat_map (kept_of l.span l.bindings.names.now (parts_view l.bindings.symbols.now)) (map alternative_view l.alternatives);
+  kept : map alternative_view l.kept.alternatives.items ++ flat_map (kept_of l.head.span l.bindings.names.now (parts_view l.bindings.symbols.now)) (map alternative_view (drop l.place l.alternatives))
+      ≡ flat_map (kept_of l.head.span l.bindings.names.now (parts_view l.bindings.symbols.now)) (map alternative_view l.alternatives);
   places : l.kept.places.items ++ kept_places comparison l.bindings.names.now (parts_view l.bindings.symbols.now) l.place (map alternative_view (drop l.place l.alternatives))
       ≡ kept_places comparison l.bindings.names.now (parts_view l.bindings.symbols.now) 0 (map alternative_view l.alternatives);
 }
