@@ -90,7 +90,7 @@ def private_words(_, document, __):
     if document.path == GLOSSARY:
         return
     for number, line in document.lines:
-        plain = CODE.sub(" ", LINK.sub(" ", line))
+        plain = re.sub(r"<[^>]*>", " ", CODE.sub(" ", LINK.sub(" ", line)))
         for private, field in PRIVATE:
             for match in private.finditer(plain):
                 yield number, "\"%s\": the field says \"%s\" (%s)" % (match.group(0), field, GLOSSARY)

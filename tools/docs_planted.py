@@ -29,7 +29,7 @@ PLANTED = (
     ("the lines of a file, in a sentence", "docs/language/READING.md", r"[A-Z]\w+ \((\d+) lines\)", more),
     ("the production of a node", "docs/language/READING.md", r"action \d+ +star_some_pair: production (\d)", more),
     ("the action of a node", "docs/language/READING.md", r"action (\d+) +plus_more_pair", more),
-    ("minutes of the whole gate", "docs/work/GATE.md", r"(\d+) minutes", more),
+    ("minutes of the whole gate", "README.md", r"whole gate takes (\d+) minutes", more),
     ("a price", "docs/work/CHANGING.md", r"and above: \d+ crates, ([\d,]+)0 seconds", more),
     ("a mutant of a crate", "crates/lalrpop_norm_nodes/README.md", r"`must-fail/` has (?:\w+) mutants:?[^`]*`(\w+)`", without_last_letter),
     ("a path", "docs/work/ARCHITECTURE.md", r"`(tools/docs)`", without_last_letter),
