@@ -59,8 +59,8 @@ def minutes(_, document, __):
         inside = "tools/gate --record writes from here" in line or inside and "<!-- to here" not in line
         if inside or not (document.path == PAGE or re.search(r"(?i)\bthe whole gate\b", line)):
             continue
-        for found, known, what in ((re.findall(r"\b(\d+) minutes", line), whole[0], "minutes"),
+        for found, known, what in ((re.findall(r"(?<!crates, )\b(\d+) minutes", line), whole[0], "minutes"),
                                    (re.findall(r"\b(\d[\d,]*) processor seconds", line), whole[1], "processor seconds")):
             for value in found:
-                if value.replace(",", "") not in known and not re.search(r"\b%s minutes on two processors" % value, line):
+                if value.replace(",", "") not in known:
                     yield number, "%s %s, and the table has %s" % (value, what, " and ".join(sorted(known)))
