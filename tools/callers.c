@@ -1,5 +1,5 @@
-/* The program lnorm over the static library, as tools/callers builds it: words, a tree on standard input, both streams and the status. It
-   takes no memory itself, so that tools/refusals refuses that of the library alone. */
+/* The program lnorm over the static library, as tools/callers builds it: arguments, a tree on standard input, both streams and the exit
+   status. It allocates nothing itself, so that in tools/refusals only allocations of the library fail. */
 #include <string.h>
 #include <unistd.h>
 #include "lnorm.h"

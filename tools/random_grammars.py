@@ -1,5 +1,5 @@
-"""Grammars by chance, as texts: of the same number always the same one. Two of three are meant to be right, though types may disagree;
-the others have a mistake here and there: a name that is not declared, an argument too many, a wrong attribute, a terminal without a pattern.
+"""Random grammars, as texts: the same seed always gives the same one. Two of three are meant to be right, though types may disagree; the
+others have some mistakes: a name that is not declared, an argument too many, a wrong attribute, a terminal without a pattern.
 """
 import random
 
@@ -24,7 +24,7 @@ def listed(parts):
 
 
 class Maker:
-    """What was chosen for a grammar, and what its parts may name."""
+    """What the seed selects for a grammar, and what its parts may name."""
 
     def __init__(self, number):
         self.chance = random.Random(number)

@@ -1,10 +1,10 @@
-"""Trees by chance: of a grammar that wanted.py lowered, in the form of wanted_back.py, and such a tree with one node spoilt; and trees of
-grammars as no parser makes them.
+"""Random trees: derivation trees of a grammar that wanted.py lowered, in the form of wanted_back.py, and such a tree with one node spoilt;
+and trees of grammars as no parser makes them.
 """
 import copy
 
 DEEP = 5
-# Fields that hold the same wherever they stand, and symbols that may stand at odd places.
+# Fields that have the same type in every object, and symbols that are put at odd positions.
 FIELDS = ("kind", "type_decl", "action", "condition", "visibility", "attributes", "alternatives", "symbols", "span", "type_parameters",
           "where_clauses", "parameters", "from", "to")
 KINDS = ({"Terminal": {"Bare": "zz"}}, {"Terminal": {"Literal": {"Quoted": "a"}}}, {"Terminal": {"Literal": {"Regex": "["}}},

@@ -1,7 +1,7 @@
-/* Loaded before the C library, as tools/refusals does: counts the growths of a program, and refuses some. A growth is a call of
-   malloc, or one of realloc for more than the block has; the programs of this repository call no other of the kind.
+/* tools/refusals loads this before the C library: it counts the allocations of a program, and lets some of them fail. An allocation is a
+   call of malloc, or one of realloc for more than the block has; the programs of this repository call no other of the kind.
 
-   The variable REFUSALS has four numbers, FIRST LAST LARGE STREAM: the growths from the FIRST to the LAST are refused, counted from 1
+   The variable REFUSALS has four numbers, FIRST LAST LARGE STREAM: the allocations from the FIRST to the LAST fail, counted from 1
    behind the first one of LARGE bytes, if LARGE is not 0. How many bytes the FIRST one asks for is written to STREAM. */
 #include <errno.h>
 #include <malloc.h>
@@ -32,7 +32,7 @@ __attribute__((noinline)) int is_refused(size_t size) { /* a debugger can stop h
     return growths <= last;
 }
 
-/* A block may have 15 bytes more than it was asked for. */
+/* A block may have 15 bytes more than were asked for. */
 static int grows(void *block, size_t size) { return !block || size + 16 > malloc_usable_size(block); }
 
 void *malloc(size_t size) { return is_refused(size) ? 0 : __libc_malloc(size); }

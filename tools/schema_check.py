@@ -1,4 +1,4 @@
-"""Compares docs/use/tree.schema.json with what else says what a tree is: `tools/schema --check`.
+"""Compares docs/use/tree.schema.json with what else defines a tree: `tools/schema --check`.
 
 - The table of shapes, crates/lalrpop_norm_json/specs/Shapes.antt: each form, with its fields and variants and what they hold.
   The reader is proved to take what has the shape of a grammar, and nothing else.
@@ -6,7 +6,7 @@
 - The fields in docs/use/FORMATS.md.
 - The trees of crates/cases and examples, and trees with one key or item changed: by the table, which is run here.
 
-A form is read from each of them as a `Form`. What stands in one is a place: the name of a form, a form, or a `Maybe` of a place.
+A form is read from each of them as a `Form`. What is in one is a place: the name of a form, a form, or a `Maybe` of a place.
 """
 import glob
 import os

@@ -1,4 +1,4 @@
-"""The words of JSON Schema, draft 2020-12, that docs/use/tree.schema.json uses: a schema with another word is refused."""
+"""The keywords of JSON Schema, draft 2020-12, that docs/use/tree.schema.json uses; a schema with another keyword is rejected."""
 
 TYPES = {
     "null": lambda v: v is None,
@@ -14,7 +14,7 @@ HERE = "#/$defs/"
 
 
 class Unknown(Exception):
-    """The schema has a word that is not known here, or one of another form."""
+    """The schema has a keyword that is not known here, or one of another form."""
 
 
 def pointer(path):

@@ -1,9 +1,8 @@
 """Reads the rules of a LALRPOP grammar from its tokens; a part of tools/tree.
 
-Each method reads one part of a grammar and gives its JSON form. A part begins where its first token does and ends where its
-last one does; what no token belongs to has no place. Code has one token, which goes on to the comma or bracket behind it,
-blanks included: so a conversion, a match item or an alternative that ends with it goes as far. A pattern or a mapping is read
-from the tokens of that code.
+Each method reads one part of a grammar and returns its JSON form. The span of a part goes from its first token to its last one; what has
+no token has no span. Code is one token, which goes on to the comma or bracket behind it, blanks included: a conversion, a match item or an
+alternative that ends with it goes as far. A pattern or a mapping is read from the tokens of that code.
 """
 from tree_tokens import Scanner, Wrong, stripped
 
@@ -76,7 +75,7 @@ class Reader:
         raise Wrong(why, token.start, token.start + 2 if token.kind in ("code", "fallible") else token.end)
 
     def span(self, start):
-        """From a place to behind the last token that was read."""
+        """From an offset to behind the last token that was read."""
         return [self.bytes_before[start], self.bytes_before[self.behind]]
 
     def span_of(self, token):
@@ -85,7 +84,7 @@ class Reader:
     # ---- lists
 
     def list_until(self, closing, read):
-        """Parts with a comma between two and maybe one behind the last, up to a sign, which is read too."""
+        """Parts with a comma between two and maybe one behind the last, up to a sign, which is read as well."""
         found = []
         while not self.takes(closing):
             found.append(read())
@@ -104,7 +103,7 @@ class Reader:
         return found
 
     def joined(self, is_first, read):
-        """Parts with `+` between two and maybe one behind the last, none at all too."""
+        """Parts with `+` between two and maybe one behind the last; there may be none."""
         found = []
         while is_first():
             found.append(read())
@@ -115,7 +114,7 @@ class Reader:
     # ---- names and literals
 
     def name(self, *others):
-        """A name; a name and `<` is one where no macro may stand."""
+        """A name; a name and `<` is one if no macro is allowed there."""
         if self.peek().kind not in ("name",) + others:
             self.fail("a name")
         return self.take().said
@@ -285,7 +284,7 @@ class Reader:
                 return self.peek(at).kind == ":"
 
     def symbol(self):
-        """A symbol as it stands in an alternative, a group or a call: chosen, named, or with repeats."""
+        """A symbol of an alternative, a group or a call: selected, named, or with repeats."""
         start = self.peek().start
         if not self.takes("<"):
             return self.repeated()
@@ -466,7 +465,7 @@ class Reader:
         return {"Terminal": self.terminal()}
 
     def inside(self, token, read):
-        """Reads what stands in the code of a token."""
+        """Reads what is in the code of a token."""
         inner = Reader(self.text, self.bytes_before, token.said, token.end)
         found = read(inner)
         inner.take("end")
@@ -566,7 +565,7 @@ class Reader:
 
 
 def prefix(text):
-    """Two underscores, or the fewest more that stand nowhere in the text."""
+    """Two underscores, or the fewest more that are nowhere in the text."""
     found = "__"
     while found in text:
         found += "_"

@@ -1,22 +1,22 @@
 """Cuts the text of a LALRPOP grammar into tokens; a part of tools/tree.
 
-A token holds its kind, what it says, and where it stands. The kind of a sign or a keyword is its own text. The others:
+A token has its kind, what it says, and its span. The kind of a sign or a keyword is its own text. The others:
 
     name        an identifier
-    call        an identifier with `<` right behind it, the name of a macro where one may stand
+    call        an identifier with `<` right behind it, the name of a macro if one is allowed there
     escape      `NAME`, a name of any characters; what is said has no backquotes
     lifetime    'NAME, what is said has the quote
-    string      ".."; what is said are the characters between the quotes, escapes as they stand
-    regex       r".." or r#".."#; what is said is what stands between the quotes
+    string      ".."; what is said are the characters between the quotes, escapes as they are written
+    regex       r".." or r#".."#; what is said is what is between the quotes
     char        '..', likewise
-    code        `=>` and the code behind it; what is said is the place where that code begins
+    code        `=>` and the code behind it; what is said is the offset at which that code begins
     fallible    the same of `=>?`
     use         `use` and the path behind it, up to the semicolon
     shebang     `#![..]`, the whole of it
     count       {N}, decimal digits in braces; what is said are the digits
     end         behind the last token
 
-Places are numbers of characters; the reader of rules makes byte offsets of them.
+Offsets count characters; the reader of rules turns them into byte offsets.
 
 Where LALRPOP's tokenizer does what one might not think, this one does the same. A block comment may stand in another one, also in code.
 A raw name, `r#NAME`, is a name with its `r#`, and `r#_` is `_`; in code an `r` with `#` behind it, the last letter of `for` too, begins

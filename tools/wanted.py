@@ -1,17 +1,16 @@
 #!/usr/bin/env python3
-"""What the program `cases` is to print, read off the JSON apart from the program: none of its code is used.
+"""The reference implementation: what the program `cases` is to print, from the JSON. None of the program's code is used.
 
-    tools/wanted.py DATA <SCRIPT                  prints each line of the script under `== `, and what it is to answer
-    tools/wanted.py DATA --compare OUTPUT <SCRIPT  names the lines for which OUTPUT has another answer; status 1 if there is one
+    tools/wanted.py DATA <SCRIPT                  prints each line of the script under `== `, and its expected answer
+    tools/wanted.py DATA --compare OUTPUT <SCRIPT  prints the lines for which OUTPUT has another answer; exit status 1 if there is one
 
-DATA is the folder of the trees, SCRIPT and OUTPUT are a crate's stdin and stdout. Where this script can't tell the answer it
-prints `?`, and compares nothing. It knows the printed forms, which texts are trees, what the passes make of a grammar that they
-take, and what they refuse one for, but for F56. It counts the lines of which it tells nothing: those are to be written by hand.
-tools/check_tools compares with it what is recorded of the program in tools/runs.
+DATA is the folder of the trees, SCRIPT and OUTPUT are a crate's stdin and stdout. If this script does not know an answer, it prints `?`,
+and compares nothing; it counts these lines, which are to be written by hand. It knows the printed forms, which texts are trees, what the
+passes make of a grammar, and with which fault they reject one, but for F56. tools/check_tools compares with it what is recorded of the
+program in tools/runs.
 
-The passes are written here a second time, briefly, after the published source of lalrpop 0.23.1; the order of faults, and what
-differs from that source, after docs/use/FAULTS.md and docs/language/DEFINITIONS.md. Which patterns are told stands in
-wanted_patterns.py: all others are `?`.
+The passes are written after the published source of lalrpop 0.23.1; the order of faults, and what differs from that source, after
+docs/use/FAULTS.md and docs/language/DEFINITIONS.md. wanted_patterns.py says which patterns are known: all others are `?`.
 """
 import copy
 import json
@@ -76,7 +75,7 @@ def asked_alternative(value, features):
 
 
 def level_numbers(rule):
-    """Of each alternative the level and the side that it states or inherits; level 0 where none before it states one."""
+    """Of each alternative the level and the associativity that it states or inherits; level 0 if none before it states one."""
     found, level, side = [], 0, "all"
     for a in rule["alternatives"]:
         stated, given = first_of(a, "precedence"), first_of(a, "assoc")
@@ -88,7 +87,7 @@ def level_numbers(rule):
 
 
 def asked_levels(rule):
-    """The levels and the sides, where none is refused."""
+    """The levels and the associativity of each, if none is an error."""
     try:
         check_levels(rule["alternatives"])
     except Refused:
@@ -215,15 +214,19 @@ def remove_conversions(tree, features):
             tokens["conversions"] = [c for c in tokens["conversions"] if is_active(c["attributes"], features)]
 
 
-def global_names(tree):
-    """The rules, the bare terminals of conversions, and those of match blocks; each name once."""
-    named = {}
+def declared_names(tree):
+    """The rules, the bare terminals of conversions, and those of match blocks: name, what it is, span; in the order of declaration."""
     bare = [(c["from"], c["span"]) for b in blocks_of(tree, "ExternToken") for c in (b["enum_token"] or {"conversions": []})["conversions"]]
     items = [i for b in blocks_of(tree, "MatchToken") for g in b["contents"] for i in g["items"]]
     bare += [(t, span) for _, mapping, span in map(item_parts, items) if mapping for t in named_terminals([mapping])]
-    whole = [(r["name"], "macro" if r["args"] else "rule", r["span"]) for r in rules_of(tree)]
-    whole += [(one(t)[1], "bare", span) for t, span in bare if one(t)[0] == "Bare"]
-    for name, what, span in whole:
+    rules = [(r["name"], "macro" if r["args"] else "rule", r["span"]) for r in rules_of(tree)]
+    return rules + [(one(t)[1], "bare", span) for t, span in bare if one(t)[0] == "Bare"]
+
+
+def global_names(tree):
+    """What each declared name is; F25 if a name is declared twice."""
+    named = {}
+    for name, what, span in declared_names(tree):
         if name in named:
             raise Refused("F25 " + place(span))
         named[name] = what
@@ -275,7 +278,7 @@ def resolve(tree):
 
 
 def put_level(values, target, names):
-    """Puts a name for each symbol of the target name: the names in turn, the last one for all others."""
+    """Replaces each recursive occurrence of the target name: by the names in turn, the last one for all others."""
     for s in values:
         if s["kind"] == {"Nonterminal": target}:
             s["kind"] = {"Nonterminal": names.pop(0) if len(names) > 1 else names[0]}

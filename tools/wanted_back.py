@@ -1,9 +1,9 @@
-"""The way back, read off docs/use/FORMATS.md and docs/use/FAULTS.md: what a tree of one side of a lowered grammar is on the other
-side. `wanted.py` uses it.
+"""The way back, written after docs/use/FORMATS.md and docs/use/FAULTS.md: the corresponding tree of a derivation tree or of a written
+tree. A part of wanted.py.
 
 A tree is a tuple: ("leaf", terminal), ("nothing",), ("list", trees) or ("node", name, number, trees). A lowered grammar has, under
 `sources`, the symbols and the origin of each production of a name, and under `roots` the names at which trees may begin. An origin is
-its word, but of a written alternative the pair of rule and number, and in the place of `some` it is `filled` for `X*`, `once` for `X?`.
+its word, but of a written alternative the pair of rule and number, and in place of `some` it is `filled` for `X*`, `once` for `X?`.
 """
 import json
 
@@ -15,7 +15,7 @@ class NoTree(Exception):
 
 
 class Refusal(Exception):
-    """A fault of a tree, with the places that lead to it."""
+    """A fault of a tree, with the child indices that lead to it."""
 
     def __init__(self, code, path):
         super().__init__("%s %s" % (code, "".join("/%d" % i for i in path) or "/"))

@@ -1,7 +1,7 @@
-"""What runs of `lnorm` come to whose streams are cut: `wanted.py` uses it.
+"""What `lnorm` answers if its streams are cut; a part of wanted.py.
 
-It is written after the statuses and lines of docs/use/FORMATS.md and the calls `cut_reads`, `cut_writes` and `cut_faults` of
-docs/work/CASES.md. The message of a fault is not told, so neither is a run that shows one.
+It is written after the exit statuses and lines of docs/use/FORMATS.md and the calls `cut_reads`, `cut_writes` and `cut_faults` of
+docs/work/CASES.md. The message of a fault is not known, so neither is an answer that shows one.
 """
 from wanted_forms import Unknown
 
@@ -11,7 +11,7 @@ FAILED = (4, 0, "lnorm: input or output failed\n")
 
 
 def ended(printed):
-    """The status of a run, how much it wrote, and its line, of what `lnorm` prints."""
+    """The exit status, how much was written, and the line on standard error, of what `lnorm` prints."""
     *output, status = printed.splitlines(keepends=True)
     line = output.pop()[len(ERROR):] if output and output[-1].startswith(ERROR) else ""
     if line.startswith("F"):

@@ -1,13 +1,13 @@
-"""The texts and the printed forms of trees, read off their JSON: `wanted.py` uses them."""
+"""The texts and the printed forms of trees, from their JSON; a part of wanted.py."""
 import re
 
 
 class Unknown(Exception):
-    """What is not told here."""
+    """What the reference implementation does not know."""
 
 
 class Refused(Exception):
-    """A fault: its number and its span."""
+    """A fault: its code and its span."""
 
 
 # ---- names, spans, terminals, types

@@ -1,10 +1,10 @@
-"""Which texts are patterns, and where a pattern is found: `wanted.py` uses it, and asks Python's `re` for what is found.
+"""Which texts are patterns, and where a pattern is found, by Python's `re`; a part of wanted.py.
 
-Told is only what stands in the lists below, of which Python's `re` and Rust's `regex` make the same, or which the documents of
-`regex` refuse in so many words: lookaround, a reference to a group, and a part of a character. All else is `Unknown`: classes in
+Known is only what is in the lists below, of which Python's `re` and Rust's `regex` make the same, or which the documents of `regex`
+exclude: lookaround, a reference to a group, and a part of a character. All else is `Unknown`: classes in
 classes and operators on them, names of Unicode, flags other than `i`, `s` and `x` or behind the beginning, repeats of repeats and
 of assertions, counts of a hundred or more, `{`, `}` and `]` by themselves, escapes that are not listed, and what may pass a limit
-of size or depth. A fault is told where all before it is in the lists, since no text behind it makes a pattern of it.
+of size or depth. A fault is known if all before it is in the lists, since no text behind it makes a pattern of it.
 """
 import re
 

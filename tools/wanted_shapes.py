@@ -1,4 +1,4 @@
-"""Whether a text is a tree, by the table of docs/use/FORMATS.md, and the tree by its `Debug`: `wanted.py` uses it.
+"""Whether a text is a tree, by the table of docs/use/FORMATS.md, and the tree by its `Debug`; a part of wanted.py.
 
 In the tables a `name` is a text that `Debug` shows as it is.
 """

@@ -1,7 +1,7 @@
-"""The pass on tokens, read off the JSON of a tree: `wanted.py` uses it.
+"""The pass on tokens, on the JSON of a tree; a part of wanted.py.
 
-It is written after the published source of lalrpop 0.23.1, but that a lexer is handed in: `CheckOnly`, which refuses what is no
-pattern, and `Scripted`, which refuses what its lists name.
+It is written after the published source of lalrpop 0.23.1, but the lexer is an argument: `CheckOnly` rejects what is no pattern, and
+`Scripted` rejects what its lists name.
 """
 import re
 

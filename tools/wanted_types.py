@@ -1,9 +1,9 @@
-"""The types of terminals and rules, read off the JSON of an expanded tree: `wanted.py` uses it.
+"""The types of terminals and rules, from the JSON of an expanded tree; a part of wanted.py.
 
-It is written after docs/use/FAULTS.md and docs/language/DEFINITIONS.md, and where those say nothing after the published source of lalrpop
-0.23.1: rounds in item order, then the alternatives are compared, then tuples of names are held against the types.
+It is written after docs/use/FAULTS.md and docs/language/DEFINITIONS.md, and if those say nothing after the published source of lalrpop
+0.23.1: rounds in item order, then the alternatives are compared, then tuples of names are compared with the types.
 
-A type is a tuple of its form and its parts, so that two of one text are told apart: a path `T::Id` and an associated type.
+A type is a tuple of its form and its parts, so that two of one text differ: a path `T::Id` and an associated type.
 """
 from wanted_forms import WRAPPERS, Refused, Unknown, canonical, one, path, place, type_text
 from wanted_tokens import blocks_of, extern_enum, plain_rules, terminals_of_entries

@@ -1,6 +1,6 @@
-"""What a written grammar is refused for before anything is changed (F1 to F24), read off the JSON of a tree: `wanted.py` uses it.
+"""The errors of a written grammar before anything is changed (F1 to F24), from the JSON of a tree; a part of wanted.py.
 
-It is written after docs/use/FAULTS.md, in the order that stands there. A tree has an `InternToken` (F21) behind the pass on tokens.
+It is written after docs/use/FAULTS.md, in the order there. A tree has an `InternToken` (F21) behind the pass on tokens.
 """
 import re
 
