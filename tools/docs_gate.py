@@ -39,7 +39,7 @@ def proof_seconds():
 
 
 def build_minutes(facts, document, _):
-    """What it takes to prove a program: "`lnorm` and below: 38 crates, 42 minutes on two processors" is half of the proofs' seconds."""
+    """The cost of the proof of a program: "`lnorm` and below: 38 crates, 42 minutes on two processors" is half of the proofs' seconds."""
     crates = gate().libraries()
     for number, line in document.lines:
         for name, count, minutes in re.findall(r"`(\w+)` and below: (\d+) crates, (\d+) minutes on two processors", line):

@@ -192,7 +192,7 @@ def beginnings(data):
 
 
 def cut_trees(data):
-    """On how many of its beginnings `lnorm` tells that they are no tree."""
+    """On how many of its beginnings `lnorm` reports that they are no tree."""
     return "beginnings: %d of %d are no tree\n" % (sum(tree_of(data[:end]) is None for end in range(len(data))), len(data))
 
 
