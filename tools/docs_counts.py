@@ -66,6 +66,9 @@ def edit_names(facts, document, _):
 
 
 def crate_tables(facts, document, _):
+    """GATE.md is left out: its table has the crates of the day on which it was measured."""
+    if document.path == "docs/work/GATE.md":
+        return
     found, first, header = set(), None, ("Crate", "Crates")
     for titles, rows in document.tables():
         if titles and titles[0] in header:

@@ -1,0 +1,14 @@
+pub mod Back
+pub mod BoundForms
+pub mod ClauseBack
+pub mod Fields
+pub mod ListBack
+pub mod NameBack
+pub mod PatternBack
+pub mod PatternKinds
+pub mod Steps
+pub mod TextBack
+pub mod Texts
+pub mod ThreeFirst
+pub mod Views
+pub mod WholeBack

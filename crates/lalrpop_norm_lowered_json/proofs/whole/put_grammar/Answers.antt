@@ -1,0 +1,16 @@
+use Rattle.std.proofs.Common.{◌∙◌, ◌∷◌, []}
+use Rattle.std.proofs.lemmas.Result.{on_ok_weaker}
+use Rattle.json.specs.Token.{end_object}
+use Rattle.lalrpop_norm_lowered_json.proofs.Steps.{back}
+use Rattle.lalrpop_norm_lowered_json.proofs.whole.put_grammar.Goals as goal
+
+pub returns : goal.returns
+returns c =
+    let t0 = c.args.out.now.tokens in
+    let t1 = c.begin_object.new.self.tokens in
+    record {
+      ok = on_ok_weaker c.end_object.result (λ e. back t0 t1 _ _ _ c.in_ok-begin_object.ensures.ok (e ∙ c.in_ok-put_from_uses.ensures.ok (end_object ∷ [])
+          ∙ c.in_ok-put_to_types.ensures.ok _ ∙ c.in_ok-put_to_prefix.ensures.ok _ ∙ c.in_ok-put_to_intern_token.ensures.ok _)) c.end_object.ensures.ok;
+      before = c.end_object.ensures.room.0 ∙ c.put_from_uses.ensures.before ∙ c.put_to_types.ensures.before ∙ c.put_to_prefix.ensures.before
+          ∙ c.put_to_intern_token.ensures.before ∙ c.begin_object.ensures.room.0;
+    }

@@ -1,0 +1,5 @@
+pub mod Written
+pub mod LoweredForms
+pub mod WholeForms
+pub mod Laws
+pub mod Fields

@@ -1,0 +1,20 @@
+//! Whole lowered grammars in JSON: each struct an object with its fields in the order of their keys, each table a list of pairs.
+#![tactic(auto)]
+
+mod actions;
+mod arguments;
+mod attributes;
+mod bounds;
+pub mod laws;
+mod names;
+mod origins;
+mod patterns;
+mod productions;
+mod put;
+mod tables;
+#[cfg(test)]
+mod tests;
+mod tokens;
+mod types;
+mod variants;
+pub mod whole;
