@@ -2,8 +2,13 @@ pub mod Back
 pub mod BoundForms
 pub mod ClauseBack
 pub mod Fields
+pub mod LineFeed
 pub mod ListBack
 pub mod NameBack
+pub mod Ordered
+pub mod OrderedClauses
+pub mod OrderedNames
+pub mod OrderedWhole
 pub mod PatternBack
 pub mod PatternKinds
 pub mod Steps

@@ -121,7 +121,7 @@ all_printable : (d : Data) → HasWords d → ArePrintable (json_tokens (outline
 unfolding ArePrintable
 all_printable d h = subst ArePrintable (append-nil (json_tokens (outline d))) (value_printable d [] h tt)
 
-tokens_of_text : (d : Data) → HasWords d → tokens (compact_text d) ≡ json_tokens (outline d)
+pub tokens_of_text : (d : Data) → HasWords d → tokens (compact_text d) ≡ json_tokens (outline d)
 tokens_of_text d h = ap tokens (sym (print-outline d)) ∙ tokens-print (json_tokens (outline d)) (all_printable d h)
 
 -- two data of one text are the same

@@ -12,8 +12,6 @@ mod patterns;
 mod productions;
 mod put;
 mod tables;
-#[cfg(test)]
-mod tests;
 mod tokens;
 mod types;
 mod variants;

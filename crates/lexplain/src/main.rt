@@ -1,30 +1,75 @@
-//! Reads a grammar from a file and a tree from standard input, and writes the corresponding tree as lines.
+//! Reads a grammar from a file and a tree from standard input, and writes the corresponding tree as lines; or writes the whole
+//! lowered grammar as JSON.
 #![tactic(auto)]
 
 use lalrpop_norm::normalize::NormFailure;
 use lexplain_run::answer::{Stop, answer, told};
-use lexplain_run::words::asked_for;
-use lnorm_run::words::{WordsError, words_of_call};
+use lexplain_run::words::{asked_for, grammar_asked};
+use lnorm_run::printing::{Afterwards, Form, Printing};
+use lnorm_run::run::run_with;
+use lnorm_run::start::prepared;
+use lnorm_run::words::WordsError;
+use lnorm_streams::halt::{Halt, Program, halt_of_words, report};
+use lnorm_streams::source::Source;
 use std::process::ExitCode;
 use std::{fs, io};
 
-const USAGE: &str =
-    "lexplain: usage: lexplain explain|lower GRAMMAR [--limit N] [--feature F]...\n";
+/// How a grammar is printed.
+const PRINTING: Printing = Printing {
+    program: Program::Lexplain,
+    form: Form::Json,
+    afterwards: Afterwards::Left,
+};
 
 fn main(rt: HostRuntime) -> ExitCode {
-    match status(&rt) {
-        Ok(status) => ExitCode::from(status),
-        Err(_) => ExitCode::from(4),
+    let status = match prepared(&rt) {
+        Ok(words) => answered(&rt, &words),
+        Err(error) => report(Program::Lexplain, halt_of_words(&error), &mut rt.stderr()),
+    };
+    ExitCode::from(status)
+}
+
+/// The exit status of a call with these arguments.
+fn answered(rt: &HostRuntime, words: &[String]) -> u8 {
+    match grammar_asked(words) {
+        Some((file, options)) => grammar(rt, file, options),
+        None => match translated(rt, words) {
+            Ok(status) => status,
+            Err(_) => report(Program::Lexplain, Halt::Input, &mut rt.stderr()),
+        },
     }
 }
 
-/// The exit status; an error is one of the streams, of the file or of the arguments.
-fn status(rt: &HostRuntime) -> io::Result<u8> {
+/// Writes the whole lowered grammar of the grammar in a file, or on standard input if its name is `-`.
+fn grammar(rt: &HostRuntime, file: &str, options: &[String]) -> u8 {
+    if file == "-" {
+        return printed(rt, options, &mut rt.stdin());
+    }
+    match fs::open(rt, file) {
+        Ok(mut input) => printed(rt, options, &mut input),
+        Err(_) => report(Program::Lexplain, Halt::Input, &mut rt.stderr()),
+    }
+}
+
+fn printed<R: Source>(rt: &HostRuntime, options: &[String], input: &mut R) -> u8 {
+    run_with(
+        rt.alloc(),
+        options,
+        input,
+        &mut rt.stdout(),
+        &mut rt.stderr(),
+        PRINTING,
+    )
+}
+
+/// Writes the tree that corresponds to the one on standard input. An error is one of the streams or of the file.
+fn translated(rt: &HostRuntime, words: &[String]) -> io::Result<u8> {
     let alloc = rt.alloc();
-    let words = words_of_call(rt)?;
-    let (file, asked) = match asked_for(alloc, &words) {
+    let (file, asked) = match asked_for(alloc, words) {
         Ok(pair) => pair,
-        Err(WordsError::Usage) => return ended(rt, 2, USAGE),
+        Err(WordsError::Usage) => {
+            return Ok(report(Program::Lexplain, Halt::Usage, &mut rt.stderr()));
+        }
         Err(WordsError::Memory) => return stopped(rt, Stop::Failed(NormFailure::Memory)),
     };
     let grammar = fs::read_to_string(rt, file)?;
@@ -40,10 +85,6 @@ fn status(rt: &HostRuntime) -> io::Result<u8> {
 
 fn stopped(rt: &HostRuntime, stop: Stop) -> io::Result<u8> {
     let (status, line) = told(rt.alloc(), stop);
-    ended(rt, status, line.as_str())
-}
-
-fn ended(rt: &HostRuntime, status: u8, line: &str) -> io::Result<u8> {
     eprint!(rt; "{line}")?;
     Ok(status)
 }

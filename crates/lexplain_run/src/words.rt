@@ -1,5 +1,5 @@
 //! What the arguments ask for.
-ghost use Rattle.std.specs.Prelude.{◌≡◌, map, string_bytes, IfOk, IsErrOf, MatchOption};
+ghost use Rattle.std.specs.Prelude.{◌≡◌, ◌≢◌, ◌∷◌, ℕ, List, codes, map, string_bytes, IfOk, IsErrOf, MatchOption};
 ghost use Rattle.lnorm_run.specs.declared.words.WordsError.TheVariants.{Usage};
 ghost use Rattle.lexplain_run.specs.declared.words.Way.{Way};
 ghost use Rattle.lexplain_run.specs.Words.{AsksForWay, AsksForNoWay, settings_asked, word_of};
@@ -48,6 +48,21 @@ pub fn asked_for(alloc: Global, words: &[String]) -> Result<(&str, Asked), Words
             Ok((file.as_str(), Asked { way, session }))
         }
         Err(error) => Err(error),
+    }
+}
+
+/// The name of the grammar's file, and the options: the arguments are `grammar`, the name, and those. `None` if they are not.
+pub fn grammar_asked(words: &[String]) -> Option<(&str, &[String])>
+    ensures { MatchOption result
+        ((file : List ℕ) (options : List (List ℕ)) → map string_bytes words.now ≢ codes "grammar" ∷ file ∷ options)
+        (λ r. map string_bytes words.now ≡ codes "grammar" ∷ r.0.now ∷ map string_bytes r.1.now) }
+{
+    let [word, file, options @ ..] = words else {
+        return None;
+    };
+    match word.as_str() {
+        "grammar" => Some((file.as_str(), options)),
+        _ => None,
     }
 }
 

@@ -3,13 +3,18 @@
 
 ghost use Rattle.std.specs.Prelude.{◌≤◌};
 
-use lnorm_run::answer::Afterwards;
+use lnorm_run::printing::{Afterwards, Form, Printing};
 use lnorm_run::run::run_with;
-use lnorm_run::words::words_of_call;
-use lnorm_streams::halt::{halt_of_words, report};
-use std::alloc::{AllocError, Global};
-use std::io;
+use lnorm_run::start::prepared;
+use lnorm_streams::halt::{Program, halt_of_words, report};
 use std::process::ExitCode;
+
+/// How the program prints.
+const PRINTING: Printing = Printing {
+    program: Program::Lnorm,
+    form: Form::Lines,
+    afterwards: Afterwards::Left,
+};
 
 fn main(rt: HostRuntime) -> ExitCode {
     ExitCode::from(status(&rt))
@@ -26,21 +31,8 @@ fn status(rt: &HostRuntime) -> u8
             &mut rt.stdin(),
             &mut rt.stdout(),
             &mut rt.stderr(),
-            Afterwards::Left,
+            PRINTING,
         ),
-        Err(error) => report(halt_of_words(&error), &mut rt.stderr()),
+        Err(error) => report(Program::Lnorm, halt_of_words(&error), &mut rt.stderr()),
     }
-}
-
-/// The arguments, once large blocks are kept.
-fn prepared(rt: &HostRuntime) -> io::Result<Vec<String>> {
-    keep_large_blocks(rt.alloc())?;
-    words_of_call(rt)
-}
-
-/// Takes a block of 31 MiB and drops it, untouched. The C library's `malloc` hands a large block that is freed back to the
-/// system, and takes new pages for the next one; by this it keeps those up to the size of this one, and uses them again.
-fn keep_large_blocks(alloc: Global) -> Result<(), AllocError> {
-    let _block: Vec<u8> = Vec::with_capacity(alloc, 31 << 20)?;
-    Ok(())
 }

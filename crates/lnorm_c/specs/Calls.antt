@@ -6,7 +6,9 @@ use Rattle.lalrpop_norm_tree.specs.Items.{GrammarData}
 use Rattle.lalrpop_norm_theory.specs.LoweredTrees.{LoweredTree}
 use Rattle.lalrpop_norm_model.specs.Features.{Features}
 use Rattle.lnorm_run.specs.Settings.{Settings, settings_of}
-use Rattle.lnorm_run.specs.Answers.{IsTree, IsFormOf, IsAnswer, IsFirstFault}
+use Rattle.lnorm_run.specs.Answers.{IsTree, IsFormOf, IsAnswerIn, IsFirstFault}
+use Rattle.lnorm_run.specs.declared.printing.Form.{Form}
+use Rattle.lnorm_run.specs.declared.printing.Form.TheVariants.{Lines, Json}
 use Rattle.lexplain_lines.specs.LineForms.{AreLines, lowered_forms}
 use Rattle.lexplain_run.specs.Answers.{ExplainsTree}
 use Rattle.lnorm_c.specs.Words.{AreWords}
@@ -26,10 +28,18 @@ abbrev pub AsksForNothing : List ℕ → Type 0
 AsksForNothing words = (s : Settings) → AsksFor words s → ⊥
 
 -- the text is right for the arguments and the input
-pub record IsRightFor (words input text : List ℕ) : Type 0 where
+pub record IsPrintedFor (form : Form) (words input text : List ℕ) : Type 0 where
   pub settings : Settings
   pub asked : AsksFor words settings
-  pub right : IsAnswer settings input text
+  pub right : IsAnswerIn form settings input text
+
+-- the text is the right lines
+abbrev pub IsRightFor : List ℕ → List ℕ → List ℕ → Type 0
+IsRightFor = IsPrintedFor Lines
+
+-- the text is the right JSON of a whole lowered grammar
+abbrev pub IsWholeFor : List ℕ → List ℕ → List ℕ → Type 0
+IsWholeFor = IsPrintedFor Json
 
 -- the fault with that span may be reported of the tree that the input is
 pub record IsRefusedFor (words input : List ℕ) (fault : FaultKind) (span : Span) : Type 0 where

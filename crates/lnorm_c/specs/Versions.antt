@@ -4,7 +4,7 @@ use Rattle.std.specs.Prelude.{ℕ, List, codes}
 -- The version of the forms. It grows with each change by which a text that was a tree is none any more, or is another tree, or by
 -- which the same grammar has other lines.
 abbrev pub form_version : ℕ
-form_version = 1
+form_version = 2
 
 -- the toolchain that the library is proved and built with
 unfoldable pub toolchain_line : List ℕ

@@ -1,8 +1,10 @@
 //! The engines of the programs for callers of C and of Rust: the arguments, an input and buffers go in as bytes.
 #![tactic(auto)]
 
+mod ended;
 pub mod explain;
 pub mod run;
 pub mod versions;
+pub mod whole;
 pub mod words;
 pub mod written;

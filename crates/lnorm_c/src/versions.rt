@@ -5,12 +5,12 @@ ghost use Rattle.lnorm_c.specs.Versions.{form_version, toolchain_line};
 
 use lnorm_buffers::buffers::put;
 
-/// The version of the forms: of a tree in JSON, and of the lines.
+/// The version of the forms: of a tree in JSON, of the lines, and of a whole lowered grammar in JSON.
 #[unsafe(no_mangle)]
 pub extern "C" fn lnorm_form_version() -> u32
     ensures { result ≡ form_version }
 {
-    1
+    2
 }
 
 /// The toolchain that the library was proved and built with, as `rt version` names it. The front of that line, without a line

@@ -1,7 +1,8 @@
 -- What the text and the faults of an input are.
-use Rattle.std.specs.Prelude.{◌≡◌, ℕ, List, Option, Some, None, true, if◌then◌else◌, IsUtf8}
+use Rattle.std.specs.Prelude.{◌≡◌, ◌++◌, ℕ, List, Option, Some, None, true, codes, if◌then◌else◌, IsUtf8}
 use Rattle.serde_json.specs.Data.{Data}
 use Rattle.serde_json.specs.Read.{read}
+use Rattle.serde_json.specs.Written.{compact_text}
 use Rattle.lalrpop_norm_tree_names.specs.declared.names.Span.{Span}
 use Rattle.lalrpop_norm_tree.specs.Items.{GrammarData}
 use Rattle.lalrpop_norm_faults.specs.declared.kind.FaultKind.{FaultKind}
@@ -17,7 +18,10 @@ use Rattle.lalrpop_norm.specs.Faithful.{IsFaithful, origins_of_actions}
 use Rattle.lalrpop_norm.specs.Normalize.{normalize_findings, StandsThere}
 use Rattle.lalrpop_norm_repr.specs.Closed.{IsClosed}
 use Rattle.lalrpop_norm_repr.specs.Lowered.{LoweredGrammar}
+use Rattle.lalrpop_norm_lowered_json.specs.WholeForms.{whole_form}
 use Rattle.lnorm_run.specs.Lines.{lines}
+use Rattle.lnorm_run.specs.declared.printing.Form.{Form}
+use Rattle.lnorm_run.specs.declared.printing.Form.TheVariants.{Lines, Json}
 
 -- the input is JSON in the shape of a tree
 pub record IsTree (bytes : List ℕ) : Type 0 where
@@ -52,17 +56,27 @@ pub record IsLowered (s : Settings) (g : GrammarData) (l : LoweredGrammar) : Typ
 abbrev pub origins_asked : Settings → GrammarData → Option (List Origin)
 origins_asked s g = if s.origins then Some (origins_of_actions s.features g s.limit) else None
 
--- the text is the lines of a lowered grammar that the tree has
-pub record IsTextFor (s : Settings) (g : GrammarData) (text : List ℕ) : Type 0 where
+-- the text of a lowered grammar, with the origins of its actions if they are listed: its lines, or one line of JSON, which is the
+-- form of the whole grammar
+abbrev pub printed_as : Form → Option (List Origin) → LoweredGrammar → List ℕ
+printed_as Lines os l = lines os l
+printed_as Json os l = compact_text (whole_form os l) ++ codes "\n"
+
+-- the text is that of a lowered grammar that the tree has
+pub record IsTextIn (form : Form) (s : Settings) (g : GrammarData) (text : List ℕ) : Type 0 where
   pub lowered : LoweredGrammar
   pub lowers : IsLowered s g lowered
-  pub printed : text ≡ lines (origins_asked s g) lowered
+  pub printed : text ≡ printed_as form (origins_asked s g) lowered
 
 -- the input is the form of a tree, and the text is that for it
-pub record IsAnswer (s : Settings) (bytes text : List ℕ) : Type 0 where
+pub record IsAnswerIn (printed : Form) (s : Settings) (bytes text : List ℕ) : Type 0 where
   pub tree : GrammarData
   pub form : IsFormOf tree bytes
-  pub right : IsTextFor s tree text
+  pub right : IsTextIn printed s tree text
+
+-- the text is the lines
+abbrev pub IsAnswer : Settings → List ℕ → List ℕ → Type 0
+IsAnswer = IsAnswerIn Lines
 
 -- The first fault of the tree that the input is, and its span; or one of its lexer that holds at that span, with no fault but
 -- of the lexer before it.

@@ -1,19 +1,12 @@
 //! The text for an input.
-ghost use Rattle.std.specs.Prelude.{◌≡◌, Some, None, true, false, IfOk, IfErr, string_bytes};
+ghost use Rattle.std.specs.Prelude.{◌≡◌, true, false, IfOk, IfErr};
 ghost use Rattle.lalrpop_norm_tree.specs.Items.{grammar_view};
-ghost use Rattle.lalrpop_norm_faults.specs.declared.failure.NormFailure.TheVariants.{Memory};
-ghost use Rattle.lnorm_run.specs.Answers.{IsAnswer, IsFormOf, IsTextFor};
-ghost use Rattle.lalrpop_norm_repr.specs.Lowered.{lowered_grammar_view as lowered_view};
-ghost use Rattle.lalrpop_norm_explain.specs.TracedGrammars.{grammar_in, origins_in};
-ghost use Rattle.lnorm_run.specs.Lines.{lines};
-ghost use Rattle.lnorm_streams.specs.declared.halt.Halt.TheVariants.{Failed};
+ghost use Rattle.lnorm_run.specs.Answers.{IsAnswerIn, IsFormOf, IsTextIn};
 ghost use Rattle.lnorm_run.specs.Halts.{Explains, Tells};
 ghost use Rattle.lnorm_run.specs.Settings.{Settings, settings_view};
 
-use crate::lines::{lines, traced_lines};
+use crate::printing::{Afterwards, Printing, text_of, traced_text_of};
 use crate::words::Asked;
-use lalrpop_norm::explain::Traced;
-use lalrpop_norm::grammar::repr;
 use lalrpop_norm::normalize::{NormFailure, normalize, normalize_traced};
 use lalrpop_norm_json::{TreeError, read_tree};
 use lalrpop_norm_tree::grammar::parse_tree::Grammar;
@@ -21,16 +14,7 @@ use lnorm_streams::halt::Halt;
 use std::alloc::Global;
 use std::mem;
 
-/// What becomes of a lowered grammar once its lines are made.
-#[derive(Clone, Copy)]
-pub enum Afterwards {
-    /// It is dropped.
-    LetGo,
-    /// It stays in memory: the program ends, and to drop it would cost a walk over its parts.
-    Left,
-}
-
-/// The text for the bytes that were read: the lines of the lowered grammar of the tree whose JSON form they are. The bytes are
+/// The text for the bytes that were read: that of the lowered grammar of the tree whose JSON form they are. The bytes are
 /// dropped once the tree is read, and the lowered grammar behind the text, if that is asked for.
 ///
 /// Errors: `NotATree` where they are the form of no tree; `Failed` with the first fault of the tree, or with a failed
@@ -39,14 +23,14 @@ pub fn answer(
     alloc: Global,
     asked: &Asked,
     bytes: Vec<u8>,
-    afterwards: Afterwards,
-) -> Result<String, Halt>
-    ensures ok { IfOk result (λ text. IsAnswer (settings_view asked.now) bytes.items (string_bytes text)) }
+    printing: Printing,
+) -> Result<Vec<u8>, Halt>
+    ensures ok { IfOk result (λ text. IsAnswerIn printing.form (settings_view asked.now) bytes.items text.items) }
     ensures err { IfErr result (Explains (settings_view asked.now) bytes.items) }
 {
     let tree = tree_of(alloc, &bytes)?;
     drop(bytes);
-    text_for(alloc, asked, tree, afterwards)
+    text_for(alloc, asked, tree, printing)
 }
 
 /// The text for a tree.
@@ -54,15 +38,15 @@ fn text_for(
     alloc: Global,
     asked: &Asked,
     tree: Grammar,
-    afterwards: Afterwards,
-) -> Result<String, Halt>
-    ensures ok { IfOk result (λ text. IsTextFor (settings_view asked.now) (grammar_view tree) (string_bytes text)) }
+    printing: Printing,
+) -> Result<Vec<u8>, Halt>
+    ensures ok { IfOk result (λ text. IsTextIn printing.form (settings_view asked.now) (grammar_view tree) text.items) }
     ensures err { IfErr result (Tells (settings_view asked.now) (grammar_view tree)) }
 {
     if asked.origins {
-        traced_text(alloc, asked, tree, afterwards)
+        traced_text(alloc, asked, tree, printing)
     } else {
-        plain_text(alloc, asked, tree, afterwards)
+        plain_text(alloc, asked, tree, printing)
     }
 }
 
@@ -71,16 +55,16 @@ fn plain_text(
     alloc: Global,
     asked: &Asked,
     tree: Grammar,
-    afterwards: Afterwards,
-) -> Result<String, Halt>
+    printing: Printing,
+) -> Result<Vec<u8>, Halt>
     requires { asked.now.origins ≡ false }
-    ensures ok { IfOk result (λ text. IsTextFor (settings_view asked.now) (grammar_view tree) (string_bytes text)) }
+    ensures ok { IfOk result (λ text. IsTextIn printing.form (settings_view asked.now) (grammar_view tree) text.items) }
     ensures err { IfErr result (Tells (settings_view asked.now) (grammar_view tree)) }
 {
     match normalize(alloc, &asked.session, tree) {
         Ok(lowered) => {
-            let text = text_of(alloc, &lowered);
-            put_away(lowered, afterwards);
+            let text = text_of(alloc, printing.form, &lowered);
+            put_away(lowered, printing.afterwards);
             text
         }
         Err(failure) => Err(Halt::Failed(failure)),
@@ -92,16 +76,16 @@ fn traced_text(
     alloc: Global,
     asked: &Asked,
     tree: Grammar,
-    afterwards: Afterwards,
-) -> Result<String, Halt>
+    printing: Printing,
+) -> Result<Vec<u8>, Halt>
     requires { asked.now.origins ≡ true }
-    ensures ok { IfOk result (λ text. IsTextFor (settings_view asked.now) (grammar_view tree) (string_bytes text)) }
+    ensures ok { IfOk result (λ text. IsTextIn printing.form (settings_view asked.now) (grammar_view tree) text.items) }
     ensures err { IfErr result (Tells (settings_view asked.now) (grammar_view tree)) }
 {
     match normalize_traced(alloc, &asked.session, tree) {
         Ok(traced) => {
-            let text = traced_text_of(alloc, &traced);
-            put_away(traced, afterwards);
+            let text = traced_text_of(alloc, printing.form, &traced);
+            put_away(traced, printing.afterwards);
             text
         }
         Err(refused) => Err(Halt::Failed(refused)),
@@ -144,27 +128,5 @@ fn tree_in(alloc: Global, text: &str) -> Result<Grammar, Halt>
         Ok(tree) => Ok(tree),
         Err(TreeError::NotATree) => Err(Halt::NotATree),
         Err(TreeError::Memory) => Err(Halt::Failed(NormFailure::Memory)),
-    }
-}
-
-/// The lines of a lowered grammar.
-fn text_of(alloc: Global, lowered: &repr::Grammar) -> Result<String, Halt>
-    ensures ok { IfOk result (λ text. string_bytes text ≡ lines None (lowered_view lowered.now)) }
-    ensures err { IfErr result (λ h. h ≡ Failed Memory) }
-{
-    match lines(alloc, lowered) {
-        Ok(text) => Ok(text),
-        Err(_) => Err(Halt::Failed(NormFailure::Memory)),
-    }
-}
-
-/// The lines of a lowered grammar with origins.
-fn traced_text_of(alloc: Global, traced: &Traced) -> Result<String, Halt>
-    ensures ok { IfOk result (λ text. string_bytes text ≡ lines (Some (origins_in traced.now)) (grammar_in traced.now)) }
-    ensures err { IfErr result (λ h. h ≡ Failed Memory) }
-{
-    match traced_lines(alloc, traced) {
-        Ok(text) => Ok(text),
-        Err(_) => Err(Halt::Failed(NormFailure::Memory)),
     }
 }

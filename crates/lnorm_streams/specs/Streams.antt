@@ -5,6 +5,8 @@ use Rattle.std.specs.Io.KnownBytes.{Appends, Consumes, IsAtEnd}
 use Rattle.lalrpop_norm_tree_names.specs.declared.names.Span.{Span}
 use Rattle.lalrpop_norm_faults.specs.declared.kind.FaultKind.{FaultKind}
 use Rattle.lalrpop_norm_faults.specs.Faults.{code_of}
+use Rattle.lnorm_streams.specs.declared.halt.Program.{Program}
+use Rattle.lnorm_streams.specs.declared.halt.Program.TheVariants.{Lnorm, Lexplain}
 
 -- the reader gave these bytes, and has no more
 pub record ReadsAll (old new : Option (List ℕ)) (bytes : List ℕ) : Type 0 where
@@ -44,3 +46,33 @@ memory_line = codes "lnorm: out of memory\n"
 
 unfoldable pub stream_line : List ℕ
 stream_line = codes "lnorm: input or output failed\n"
+
+-- the same of `lexplain`
+unfoldable pub lexplain_usage_line : List ℕ
+lexplain_usage_line = codes "lexplain: usage: lexplain explain|lower GRAMMAR [--limit N] [--feature F]..., or lexplain grammar GRAMMAR [--limit N] [--feature F]... [--origins]\n"
+
+unfoldable pub lexplain_no_tree_line : List ℕ
+lexplain_no_tree_line = codes "lexplain: the file is no tree of a grammar\n"
+
+unfoldable pub lexplain_memory_line : List ℕ
+lexplain_memory_line = codes "lexplain: out of memory\n"
+
+unfoldable pub lexplain_stream_line : List ℕ
+lexplain_stream_line = codes "lexplain: input or output failed\n"
+
+-- the lines of the program that runs
+abbrev pub usage_line_of : Program → List ℕ
+usage_line_of Lnorm = usage_line
+usage_line_of Lexplain = lexplain_usage_line
+
+abbrev pub no_tree_line_of : Program → List ℕ
+no_tree_line_of Lnorm = no_tree_line
+no_tree_line_of Lexplain = lexplain_no_tree_line
+
+abbrev pub memory_line_of : Program → List ℕ
+memory_line_of Lnorm = memory_line
+memory_line_of Lexplain = lexplain_memory_line
+
+abbrev pub stream_line_of : Program → List ℕ
+stream_line_of Lnorm = stream_line
+stream_line_of Lexplain = lexplain_stream_line

@@ -2,7 +2,7 @@
 ghost use Rattle.std.specs.IoError.{error_kind};
 ghost use Rattle.std.specs.Io.KnownBytes.{Appends};
 ghost use Rattle.std.specs.Prelude.{◌≡◌, ◌≢◌, ◌++◌, IsTrue, OnOk, codes, decimal, string_bytes};
-ghost use Rattle.lnorm_streams.specs.Streams.{WritesFront, fault_line, one_line, span_text, usage_line, no_tree_line, memory_line, stream_line};
+ghost use Rattle.lnorm_streams.specs.Streams.{WritesFront, fault_line, one_line, span_text, usage_line_of, no_tree_line_of, memory_line_of, stream_line_of};
 ghost use Rattle.lnorm_streams.specs.Told.{status_of, LineOf};
 
 use crate::message::{push_message, write_message};
@@ -12,6 +12,15 @@ use lalrpop_norm_faults::{NormError, NormFailure};
 use lalrpop_norm_tree_names::names::Span;
 use std::alloc::AllocError;
 use std::io::{self, ErrorKind, Write};
+
+/// The program that runs: its name stands in front of the lines that are no fault's.
+#[derive(Clone, Copy, Debug, PartialEq, Eq)]
+pub enum Program {
+    /// `lnorm`, and its library.
+    Lnorm,
+    /// `lexplain`.
+    Lexplain,
+}
 
 /// Why a run ends without its text.
 #[derive(Debug, Drop)]
@@ -40,10 +49,10 @@ pub fn halt_of_words(error: &io::Error) -> Halt
     }
 }
 
-/// Writes the line of a halt, or a beginning of it, and answers its exit status. It allocates nothing.
-pub fn report<E: Write>(halt: Halt, faults: &mut E) -> u8
+/// Writes the line of a halt of that program, or a beginning of it, and answers its exit status. It allocates nothing.
+pub fn report<E: Write>(program: Program, halt: Halt, faults: &mut E) -> u8
     ensures status { result ≡ status_of halt }
-    ensures line { LineOf halt (E.contents faults.old) (E.contents faults.new) }
+    ensures line { LineOf program halt (E.contents faults.old) (E.contents faults.new) }
 {
     match halt {
         Halt::Failed(NormFailure::Refused(error)) => {
@@ -51,23 +60,23 @@ pub fn report<E: Write>(halt: Halt, faults: &mut E) -> u8
             1
         }
         Halt::NotATree => {
-            say(faults, not_a_tree());
+            say(faults, not_a_tree(program));
             2
         }
         Halt::Usage => {
-            say(faults, usage());
+            say(faults, usage(program));
             2
         }
         Halt::Failed(NormFailure::Memory) => {
-            say(faults, no_memory());
+            say(faults, no_memory(program));
             3
         }
         Halt::Input => {
-            say(faults, stream_failed());
+            say(faults, stream_failed(program));
             4
         }
         Halt::Output => {
-            say(faults, stream_failed());
+            say(faults, stream_failed(program));
             4
         }
     }
@@ -135,30 +144,43 @@ fn write_number<E: Write>(faults: &mut E, number: usize, behind: &str) -> bool
     write_both(faults, digits.format(number), behind)
 }
 
-#[tactic(auto, unfolding(crate::specs::Streams::usage_line))]
-fn usage() -> &'static str
-    ensures { result.now ≡ usage_line }
+#[tactic(auto, unfolding(crate::specs::Streams::usage_line, crate::specs::Streams::lexplain_usage_line))]
+fn usage(program: Program) -> &'static str
+    ensures { result.now ≡ usage_line_of program }
 {
-    "lnorm: usage: lnorm [--limit N] [--feature F]... [--origins]\n"
+    match program {
+        Program::Lnorm => "lnorm: usage: lnorm [--limit N] [--feature F]... [--origins]\n",
+        Program::Lexplain =>
+            "lexplain: usage: lexplain explain|lower GRAMMAR [--limit N] [--feature F]..., or lexplain grammar GRAMMAR [--limit N] [--feature F]... [--origins]\n",
+    }
 }
 
-#[tactic(auto, unfolding(crate::specs::Streams::no_tree_line))]
-fn not_a_tree() -> &'static str
-    ensures { result.now ≡ no_tree_line }
+#[tactic(auto, unfolding(crate::specs::Streams::no_tree_line, crate::specs::Streams::lexplain_no_tree_line))]
+fn not_a_tree(program: Program) -> &'static str
+    ensures { result.now ≡ no_tree_line_of program }
 {
-    "lnorm: not a tree\n"
+    match program {
+        Program::Lnorm => "lnorm: not a tree\n",
+        Program::Lexplain => "lexplain: the file is no tree of a grammar\n",
+    }
 }
 
-#[tactic(auto, unfolding(crate::specs::Streams::memory_line))]
-fn no_memory() -> &'static str
-    ensures { result.now ≡ memory_line }
+#[tactic(auto, unfolding(crate::specs::Streams::memory_line, crate::specs::Streams::lexplain_memory_line))]
+fn no_memory(program: Program) -> &'static str
+    ensures { result.now ≡ memory_line_of program }
 {
-    "lnorm: out of memory\n"
+    match program {
+        Program::Lnorm => "lnorm: out of memory\n",
+        Program::Lexplain => "lexplain: out of memory\n",
+    }
 }
 
-#[tactic(auto, unfolding(crate::specs::Streams::stream_line))]
-fn stream_failed() -> &'static str
-    ensures { result.now ≡ stream_line }
+#[tactic(auto, unfolding(crate::specs::Streams::stream_line, crate::specs::Streams::lexplain_stream_line))]
+fn stream_failed(program: Program) -> &'static str
+    ensures { result.now ≡ stream_line_of program }
 {
-    "lnorm: input or output failed\n"
+    match program {
+        Program::Lnorm => "lnorm: input or output failed\n",
+        Program::Lexplain => "lexplain: input or output failed\n",
+    }
 }

@@ -3,7 +3,7 @@ use Rattle.std.proofs.lemmas.Result.{IfOk-weaker}
 use Rattle.lalrpop_norm_tree.specs.Items.{grammar_view}
 use Rattle.lalrpop_norm_explain.specs.TracedGrammars.{grammar_in}
 use Rattle.lalrpop_norm.specs.Faithful.{origins_of_actions}
-use Rattle.lnorm_run.specs.Lines.{lines}
+use Rattle.lnorm_run.specs.Answers.{printed_as}
 use Rattle.lnorm_run.specs.Settings.{settings_view}
 use Rattle.lnorm_run.proofs.FaultlessLemmas.{no_fault_stands}
 use Rattle.lnorm_run.proofs.answer.traced_text.Goals as goal
@@ -21,7 +21,7 @@ returns-in-Ok-clause-ok c =
         faithful = c.in-Ok.ensures.faithful;
         closed = c.in-Ok.ensures.closed;
       };
-      printed = printed ∙ ap (λ os. lines (Some os) lowered) c.in-Ok.ensures.origins
-          ∙ ap (λ (b : Bool). lines (if b then Some (origins_of_actions s.features tree s.limit) else None) lowered) (sym c.requires);
+      printed = printed ∙ ap (λ os. printed_as c.args.printing.form (Some os) lowered) c.in-Ok.ensures.origins
+          ∙ ap (λ (b : Bool). printed_as c.args.printing.form (if b then Some (origins_of_actions s.features tree s.limit) else None) lowered) (sym c.requires);
     })
     c.traced_text_of-text.ensures.ok

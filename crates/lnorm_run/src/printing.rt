@@ -1,0 +1,98 @@
+//! What is printed of a lowered grammar.
+ghost use Rattle.std.specs.Prelude.{◌≡◌, ◌++◌, Some, None, IfOk, IfErr, codes};
+ghost use Rattle.lalrpop_norm_faults.specs.declared.failure.NormFailure.TheVariants.{Memory};
+ghost use Rattle.lalrpop_norm_repr.specs.Lowered.{lowered_grammar_view as lowered_view};
+ghost use Rattle.lalrpop_norm_explain.specs.TracedGrammars.{grammar_in, origins_in};
+ghost use Rattle.lnorm_streams.specs.declared.halt.Halt.TheVariants.{Failed};
+ghost use Rattle.lnorm_run.specs.Answers.{printed_as};
+
+use crate::lines::{lines, traced_lines};
+use lalrpop_norm::explain::Traced;
+use lalrpop_norm::grammar::repr::Grammar;
+use lalrpop_norm::normalize::NormFailure;
+use lalrpop_norm_lowered_json::whole::{grammar_json, traced_json};
+use lnorm_streams::halt::{Halt, Program};
+use std::alloc::{AllocError, Global};
+
+/// Which text of a lowered grammar is printed.
+#[derive(Clone, Copy, Debug, PartialEq, Eq)]
+pub enum Form {
+    /// Its productions, types and start symbols, as lines.
+    Lines,
+    /// The whole of it as JSON, in one line.
+    Json,
+}
+
+/// What becomes of a lowered grammar once its text is made.
+#[derive(Clone, Copy, Debug, PartialEq, Eq)]
+pub enum Afterwards {
+    /// It is dropped.
+    LetGo,
+    /// It stays in memory: the program ends, and to drop it would cost a walk over its parts.
+    Left,
+}
+
+/// How a run prints.
+#[derive(Clone, Copy, Debug, PartialEq, Eq)]
+pub struct Printing {
+    /// The program in the lines of errors.
+    pub program: Program,
+    /// The text of the lowered grammar.
+    pub form: Form,
+    /// What becomes of the lowered grammar.
+    pub afterwards: Afterwards,
+}
+
+/// The text of a lowered grammar. The only error is a failed allocation.
+pub(crate) fn text_of(alloc: Global, form: Form, lowered: &Grammar) -> Result<Vec<u8>, Halt>
+    ensures ok { IfOk result (λ text. text.items ≡ printed_as form None (lowered_view lowered.now)) }
+    ensures err { IfErr result (λ h. h ≡ Failed Memory) }
+{
+    made(text_made(alloc, form, lowered))
+}
+
+/// The text of a lowered grammar with its origins. The only error is a failed allocation.
+pub(crate) fn traced_text_of(alloc: Global, form: Form, traced: &Traced) -> Result<Vec<u8>, Halt>
+    ensures ok { IfOk result (λ text. text.items ≡ printed_as form (Some (origins_in traced.now)) (grammar_in traced.now)) }
+    ensures err { IfErr result (λ h. h ≡ Failed Memory) }
+{
+    made(traced_text_made(alloc, form, traced))
+}
+
+/// The text that was made.
+fn made(text: Result<Vec<u8>, AllocError>) -> Result<Vec<u8>, Halt>
+    ensures ok { IfOk result (λ made. text ≡ Ok made) }
+    ensures err { IfErr result (λ h. h ≡ Failed Memory) }
+{
+    match text {
+        Ok(text) => Ok(text),
+        Err(_) => Err(Halt::Failed(NormFailure::Memory)),
+    }
+}
+
+fn text_made(alloc: Global, form: Form, lowered: &Grammar) -> Result<Vec<u8>, AllocError>
+    ensures { IfOk result (λ text. text.items ≡ printed_as form None (lowered_view lowered.now)) }
+{
+    match form {
+        Form::Lines => Ok(lines(alloc, lowered)?.into_bytes()),
+        Form::Json => as_line(grammar_json(alloc, lowered)?),
+    }
+}
+
+fn traced_text_made(alloc: Global, form: Form, traced: &Traced) -> Result<Vec<u8>, AllocError>
+    ensures { IfOk result (λ text. text.items ≡ printed_as form (Some (origins_in traced.now)) (grammar_in traced.now)) }
+{
+    match form {
+        Form::Lines => Ok(traced_lines(alloc, traced)?.into_bytes()),
+        Form::Json => as_line(traced_json(alloc, traced)?),
+    }
+}
+
+/// A text with a line feed behind it.
+fn as_line(text: Vec<u8>) -> Result<Vec<u8>, AllocError>
+    ensures { IfOk result (λ line. line.items ≡ text.items ++ codes "\n") }
+{
+    let mut line = text;
+    line.push(b'\n')?;
+    Ok(line)
+}
