@@ -17,18 +17,23 @@ import json
 import os
 import re
 import sys
+from itertools import zip_longest
 
 sys.dont_write_bytecode = True
 from wanted_back import NoTree, Refusal, explained, lowered_back, shown_lines, tree_of_lines
 from wanted_cuts import cut_faults, cut_reads, cut_writes
-from wanted_forms import (WRAPPERS, Refused, Unknown, argument, attributes, canonical, clause_lines, intern, lowered_clauses,
-                          names_text, one, pattern, place, signature, terminal, tree_text, type_text, visibility)
+from wanted_forms import Refused, Unknown, canonical, names_text, one, place, terminal, tree_text, type_text
+from wanted_lowered import Lowered, source_name
 from wanted_patterns import is_found, is_pattern
 from wanted_shapes import beginnings, cut_trees, debug_tree, readings, tree_of
-from wanted_tokens import (KNOWN_ATTRIBUTES, CheckOnly, NoMemory, Scripted, blocks_of, check_tokens, extern_enum, is_expanded, item_parts,
-                           named_terminals, terminals_used)
+from wanted_tokens import (KNOWN_ATTRIBUTES, CheckOnly, NoMemory, Scripted, blocks_of, check_tokens, extern_enum, inner_symbols, is_expanded,
+                           item_parts, named_terminals, symbols_under, terminals_used)
 from wanted_types import LOOKAROUNDS, Types, sources, text_of
 from wanted_written import braces, check_levels, check_written, first_of, first_pair, malformed_cfgs
+
+
+# how many characters of a line are printed, if it is longer and differs
+LONG = 400
 
 
 # ---- what is asked of a tree
@@ -54,11 +59,6 @@ def is_active(values, features):
 def asked_attributes(values, features):
     pairs = [first_pair(a) for a in values]
     return ("  on" if is_active(values, features) else "  off") + "".join(" %s=%s" % p for p in pairs if p) + "\n"
-
-
-def source_name(name):
-    """That of a named symbol, or of a tuple of names, as it is displayed."""
-    return argument(name[1]) if name[0] == "Name" else names_text(name[1])
 
 
 def asked_alternative(value, features):
@@ -176,21 +176,6 @@ def symbol_texts(s):
 
 def rules_of(tree):
     return blocks_of(tree, "Nonterminal")
-
-
-def inner_symbols(name, content):
-    if name in WRAPPERS:
-        return [WRAPPERS[name](content)]
-    return {"Expr": lambda: content["symbols"], "Repeat": lambda: [content["symbol"]],
-            "Macro": lambda: content["args"]}.get(name, lambda: [])()
-
-
-def symbols_under(values):
-    """The symbols, those inside of others before them."""
-    for s in values:
-        name, content = one(s["kind"])
-        yield from symbols_under(inner_symbols(name, content))
-        yield s
 
 
 def mark_origins(tree):
@@ -346,7 +331,7 @@ def repeat_rule(span, repeat):
     plus = {"span": span, "kind": {"Repeat": {"op": "Plus", "symbol": inner}}}
     if repeat["op"] == "Question":
         return nominal(["Option"], of_inner), [
-            new_alternative(span, [inner], "Some(<>)", "once"), new_alternative(span, [], "None", "empty")], True
+            new_alternative(span, [inner], "Some(<>)", "once"), new_alternative(span, [], "None", "none")], True
     vec = nominal(["alloc", "vec", "Vec"], of_inner)
     name, count = one(repeat["op"])
     if name == "Times":
@@ -497,155 +482,6 @@ def is_typed(tree, features):
     return all(named.count(t) == 1 for t in named) and all(t in named for t, _ in terminals_used(tree))
 
 
-# ---- lowering
-
-def lowered_symbol(value):
-    name, content = one(value["kind"])
-    if name in WRAPPERS:
-        return lowered_symbol(WRAPPERS[name](content))
-    return terminal(content, False) if name == "Terminal" else "error" if name == "Error" else content
-
-
-def symbol_of(value):
-    """A symbol as trees have it: whether it is a terminal, and that, or a name."""
-    name, content = one(value["kind"])
-    if name in WRAPPERS:
-        return symbol_of(WRAPPERS[name](content))
-    return (True, content) if name == "Terminal" else (True, "Error") if name == "Error" else (False, content)
-
-
-def conversions_of(tree):
-    """The terminals of conversions or entries, with the patterns of their tokens."""
-    enum = extern_enum(tree)
-    if enum:
-        return [(c["from"], pattern(c["to"])) for c in enum["conversions"]]
-    entries = [e for t in blocks_of(tree, "InternToken") for e in t["match_entries"]]
-    return [(t, "Token(%d, &'input str)" % i) for i, e in enumerate(entries) for t in named_terminals([e["user_name"]])]
-
-
-def with_sources(code, named, parts, names, span):
-    """The code with the names of its sources in the place of each `<>`."""
-    pieces = code.split("<>")
-    if named or len(pieces) < 3:
-        return ", ".join(names).join(pieces)
-    if len(pieces) - 1 != len(parts):
-        raise Refused("F54 " + (place([parts[0][2]["span"][0], parts[-1][2]["span"][1]]) if parts else place(span)))
-    return "".join(before + name for before, name in zip(pieces, names)) + pieces[-1]
-
-
-def action_text(types, values, ty, action, span):
-    """An action with the patterns and the types of its arguments, its own type, and its code; a lookaround has none of these."""
-    if action in LOOKAROUNDS:
-        return action + "\n"
-    named, parts = sources(values)
-    shown = ["_"] * len(values)
-    for count, (i, name, _) in enumerate(parts):
-        shown[i] = source_name(name) if named else "%s%d" % (types.prefix, count)
-    names = [name[1]["name"] if named and name[0] == "Name" else shown[i] for i, name, _ in parts]
-    code = one(action)[1] if action else "()" if ty == ("Tuple", ()) else "<>" if len(parts) == 1 else "(<>)"
-    arguments = ", ".join("%s: %s" % (p, text_of(types.of_kind(s["kind"]))) for p, s in zip(shown, values))
-    failing = "fallible " if action and one(action)[0] == "Fallible" else ""
-    return "%sfn _(%s) -> %s { %s }\n" % (failing, arguments, text_of(ty), with_sources(code, named, parts, names, span))
-
-
-def asked_code(values):
-    """What the attributes of a grammar ask for."""
-    codes = [a["id"] for a in values if a["id"] in ("table_driven", "recursive_ascent", "test_all")]
-    lalr = " LALR" if any(a["id"] == "LALR" for a in values) else ""
-    return lalr + "".join(" " + c for c in codes[-1:] if c != "table_driven")
-
-
-class Lowered:
-    """A lowered grammar: its nonterminals by their names, its actions, its start symbols."""
-
-    def __init__(self, tree, roots=()):
-        self.types, self.tree, self.roots = Types(tree).infer(), tree, roots
-        self.found, self.actions, self.starts = {}, [], {}
-        # of each nonterminal the symbols and the origin of its productions
-        self.sources = {}
-        for rule in rules_of(tree):
-            if rule["visibility"] != "Priv":
-                self.start(rule)
-        for rule in rules_of(tree):
-            ty = self.types.known[rule["name"]]
-            made = [self.production(rule["name"], a["expr"]["symbols"], ty, a["action"], a["span"], a.get("origin"))
-                    for a in rule["alternatives"]]
-            self.sources.setdefault(rule["name"], [])
-            self.found[rule["name"]] = (rule, ty, rule["attributes"], made)
-        self.recovers = any(name == "Error" for name, _ in every_kind(tree))
-
-    def production(self, name, values, ty, action, span, origin):
-        self.actions.append(action_text(self.types, values, ty, action, span))
-        self.sources.setdefault(name, []).append((list(map(symbol_of, values)), origin))
-        shown = ", ".join(map(lowered_symbol, values))
-        return "%s = %s => ActionFn(%d);" % (name, shown, len(self.actions) - 1), place(span)
-
-    def start(self, rule):
-        name, ty = self.tree["prefix"] + rule["name"], self.types.known[rule["name"]]
-        if name in self.types.known:
-            raise Refused("F55 " + place(rule["span"]))
-        self.types.known[name] = ty
-        of_rule = {"span": rule["span"], "kind": {"Nonterminal": rule["name"]}}
-        self.found[name] = (rule, ty, [], [self.production(name, [of_rule], ty, None, rule["span"], "start")])
-        self.starts[rule["name"]] = name
-
-    def text(self):
-        text = "lowered " + self.tree["prefix"] + asked_code(self.tree["attributes"]) + (" recovers" if self.recovers else "") + "\n"
-        text += "".join("  #![%s]\n" % a for a in self.tree["module_attributes"]) + signature(self.tree)
-        text += clause_lines(c for w in self.tree["where_clauses"] for c in lowered_clauses(w))
-        text += "".join("use %s\n" % c for n, c in map(one, self.tree["items"]) if n == "Use") + self.types.text()
-        conversions = conversions_of(self.tree)
-        for number, (t, shown) in enumerate(conversions):
-            text += "terminal %s: %s = %s #%d\n" % (terminal(t), text_of(self.types.of_terminal(t)), shown, number)
-        if self.recovers:
-            text += "terminal $!: %s #%d\n" % (text_of(self.types.of_fault("ErrorRecovery")), len(conversions))
-        text += "".join(map(intern, blocks_of(self.tree, "InternToken")))
-        for name in sorted(self.found, key=str.encode):
-            rule, ty, marks, made = self.found[name]
-            text += "%snonterminal %s: %s %s%s\n" % (visibility(rule["visibility"]), name, text_of(ty), place(rule["span"]), attributes(marks))
-            text += "".join("    %s %s\n" % pair for pair in made)
-        text += "".join("action %d %s" % pair for pair in enumerate(self.actions))
-        return text + "".join("start %s = %s\n" % (n, self.starts[n]) for n in sorted(self.starts, key=str.encode))
-
-    def copied(self):
-        """The text, and what is asked of it where it has two parameters and a type parameter more."""
-        names = [p["name"] for p in self.tree["parameters"]] + ["n", "m"]
-        count = 1 + sum(one(p)[0] == "Id" for p in self.tree["type_parameters"])
-        text = self.text() + "parameters %s, and %d type\n" % (", ".join(names), count)
-        for name in ("S", "U"):
-            made = [shown for shown, _ in self.found[name][3]] if name in self.found else []
-            text += "productions of %s [%s]\n" % (name, ", ".join(made))
-        conversions = conversions_of(self.tree)
-        text += "%d terminals with a number\n" % (len({str(t) for t, _ in conversions}) + self.recovers)
-        text += "".join("pattern of %s: %s\n" % (terminal(t, marked=False), shown) for t, shown in conversions)
-        failing = [" %d" % n for n, shown in enumerate(self.actions) if shown.startswith("fallible ")]
-        return text + "actions that may fail" + "".join(failing) + "\n"
-
-    def counts(self):
-        """How many productions each nonterminal has."""
-        return "".join("%s: %d\n" % (n, len(self.found[n][3])) for n in sorted(self.found, key=str.encode))
-
-    def marked(self, name):
-        """The productions of a nonterminal, each with its origin in a word."""
-        for (line, _), (_, origin) in zip(self.found[name][3], self.sources[name]):
-            yield line, "%s %d" % origin if isinstance(origin, tuple) else {"filled": "some", "once": "some"}.get(origin, origin)
-
-    def traced(self):
-        """The nonterminals, with what is kept beside them for the way back."""
-        text = ""
-        for name in sorted(self.found, key=str.encode):
-            text += "%s, a written rule: %s\n" % (name, str(name in self.roots).lower())
-            text += "".join("    %s %s\n" % pair for pair in self.marked(name))
-        return text
-
-    def lines(self, origins=False):
-        """What the program `lnorm` prints."""
-        names = sorted(self.found, key=str.encode)
-        text = "".join(line + (" [%s]\n" % origin if origins else "\n") for n in names for line, origin in self.marked(n))
-        text += "".join("type %s: %s\n" % (n, text_of(self.found[n][1])) for n in names)
-        return text + "".join("start %s = %s\n" % (n, self.starts[n]) for n in sorted(self.starts, key=str.encode))
-
-
 # ---- the script
 
 class Usage(Exception):
@@ -701,11 +537,6 @@ def run_pass(name, tree, features, limit, lexer=None):
         raise Unknown
 
 
-def every_kind(tree):
-    """The kinds of all symbols, those inside of others too."""
-    return [one(s["kind"]) for r in rules_of(tree) for a in r["alternatives"] for s in symbols_under(a["expr"]["symbols"])]
-
-
 def normalized(tree, features, limit, lexer=None):
     check_written(tree)
     mark_origins(tree)
@@ -733,20 +564,35 @@ def lowered_alone(tree, features):
         raise NotExpanded
     lowered = Lowered(tree)
     remove_conversions(tree, features)
-    return lowered.text()
+    return lowered.json()
+
+
+USAGE = {"lnorm": "lnorm [--limit N] [--feature F]... [--origins]",
+         "lexplain": "lexplain explain|lower GRAMMAR [--limit N] [--feature F]..., "
+                     "or lexplain grammar GRAMMAR [--limit N] [--feature F]... [--origins]"}
+NO_TREE = {"lnorm": "not a tree", "lexplain": "the file is no tree of a grammar"}
 
 
 def lines_of(data, words):
     """What `lnorm` prints."""
-    tree = None
+    return printed_by("lnorm", data, words, Lowered.lines)
+
+
+def json_of(data, words):
+    """What `lexplain grammar` prints, with the arguments behind the grammar's name."""
+    return printed_by("lexplain", data, words, Lowered.json)
+
+
+def printed_by(program, data, words, text_of_it):
+    """What the program prints on both streams, and its exit status."""
     try:
         features, limit, origins = settings(words)
         tree = tree_of(data)
         if tree is None:
-            return "standard error: lnorm: not a tree\nstatus 2\n"
-        return normalized(tree, features, limit).lines(origins) + "status 0\n"
+            return "standard error: %s: %s\nstatus 2\n" % (program, NO_TREE[program])
+        return text_of_it(normalized(tree, features, limit), origins) + "status 0\n"
     except Usage:
-        return "standard error: lnorm: usage: lnorm [--limit N] [--feature F]... [--origins]\nstatus 2\n"
+        return "standard error: %s: usage: %s\nstatus 2\n" % (program, USAGE[program])
     except Refused as fault:
         return "standard error: %s\nstatus 1\n" % fault
 
@@ -801,11 +647,11 @@ def passes_answer(data, call, words):
         return "not a tree\n"
     for one_pass in first:
         run_pass(one_pass, tree, features, limit)
-    if whole and last in LAST[1:4] + ("lower",):
+    if whole and last == "infer_types":
         raise Unknown
     if last in ("normalize", "normalize_scripted", "lowered_copy", "traced"):
         lowered = normalized(tree, features, limit, lexer)
-        return {"lowered_copy": lowered.copied, "traced": lowered.traced}.get(last, lowered.text)()
+        return {"lowered_copy": lowered.copied, "traced": lowered.traced}.get(last, lowered.json)()
     if last == "lower":
         resolve(tree)
         return lowered_alone(tree, features)
@@ -848,7 +694,8 @@ def answer(data, name, call, *words):
             return readers[call](content)
         if call in BACK:
             return by_passes(content, call, words, lambda: back_answer(content, b"".join(beside), call, words))
-        return lines_of(content, words) if call == "lnorm" else by_passes(content, call, words)
+        programs = {"lnorm": lines_of, "grammar": json_of}
+        return programs[call](content, words) if call in programs else by_passes(content, call, words)
     except Unknown:
         return "?\n"
 
@@ -880,6 +727,16 @@ def answers_of(text):
     return found
 
 
+def difference(want, got):
+    """Two answers that differ; of a long line what is around its first difference."""
+    pairs = zip_longest(want.split("\n"), (got or "").split("\n"), fillvalue="")
+    one_line, other = next((pair for pair in pairs if pair[0] != pair[1]), ("", ""))
+    if got is None or max(len(one_line), len(other)) < LONG:
+        return "-- wanted\n%s-- got\n%s" % (want, got)
+    start = max(len(os.path.commonprefix([one_line, other])) - LONG // 4, 0)
+    return "-- wanted, from character %d of a line\n%s\n-- got\n%s\n" % (start, one_line[start:start + LONG], other[start:start + LONG])
+
+
 def main():
     data, others = sys.argv[1], sys.argv[2:]
     got = answers_of(open(others[1], encoding="utf-8").read()) if others else {}
@@ -896,7 +753,7 @@ def main():
             elif got.get(line) == want:
                 same += 1
             else:
-                differ.append("== %s\n-- wanted\n%s-- got\n%s" % (line, want, got.get(line)))
+                differ.append("== %s\n%s" % (line, difference(want, got.get(line))))
     if others:
         print("".join(differ) + "%d same, %d differ, %d not told here" % (same, len(differ), unknown))
     return bool(differ)

@@ -3,7 +3,7 @@ tree. A part of wanted.py.
 
 A tree is a tuple: ("leaf", terminal), ("nothing",), ("list", trees) or ("node", name, number, trees). A lowered grammar has, under
 `sources`, the symbols and the origin of each production of a name, and under `roots` the names at which trees may begin. An origin is
-its word, but of a written alternative the pair of rule and number, and in place of `some` it is `filled` for `X*`, `once` for `X?`.
+its word, but of a written alternative the pair of rule and number, and of `X?` it is `once` or `none`, of `X*` `empty` or `filled`.
 """
 import json
 

@@ -136,14 +136,6 @@ def clause(value):
     return binder(content["forall"]) + type_text(content["ty"]) + ": " + " +".join(" " + bound(b) for b in content["bounds"])
 
 
-def lowered_clauses(value):
-    """What it is lowered to: one clause for each bound."""
-    name, content = one(value)
-    if name == "Lifetime":
-        return [content["lifetime"] + ": " + b for b in content["bounds"]]
-    return [binder(content["forall"]) + type_text(content["ty"]) + ": " + bound(b) for b in content["bounds"]]
-
-
 def fields(values, open_ended):
     parts = [f["field_name"] + ": " + pattern(f["pattern"]) for f in values]
     return " { " + ", ".join(parts + [".."] * open_ended) + " }"

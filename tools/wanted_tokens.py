@@ -25,6 +25,21 @@ def plain_rules(tree):
     return blocks_of(tree, "Nonterminal")
 
 
+def inner_symbols(name, content):
+    if name in WRAPPERS:
+        return [WRAPPERS[name](content)]
+    return {"Expr": lambda: content["symbols"], "Repeat": lambda: [content["symbol"]],
+            "Macro": lambda: content["args"]}.get(name, lambda: [])()
+
+
+def symbols_under(values):
+    """The symbols, those inside of others before them."""
+    for s in values:
+        name, content = one(s["kind"])
+        yield from symbols_under(inner_symbols(name, content))
+        yield s
+
+
 # ---- whether a tree is expanded
 
 def is_plain(kind):

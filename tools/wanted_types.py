@@ -5,7 +5,7 @@ It is written after docs/use/FAULTS.md and docs/language/DEFINITIONS.md, and if 
 
 A type is a tuple of its form and its parts, so that two of one text differ: a path `T::Id` and an associated type.
 """
-from wanted_forms import WRAPPERS, Refused, Unknown, canonical, one, path, place, type_text
+from wanted_forms import WRAPPERS, Refused, Unknown, canonical, one, path, place
 from wanted_tokens import blocks_of, extern_enum, plain_rules, terminals_of_entries
 
 LOOKAROUNDS = ("Lookahead", "Lookbehind")
@@ -46,7 +46,7 @@ def text_of(ty):
     if form == "Lifetime":
         return parts[0]
     forall, whole, parameters, ret = parts
-    text = "dyn " + ("for<" + ", ".join(forall) + "> " if forall else "") + path({"absolute": whole[0], "ids": whole[1]})
+    text = "dyn " + ("for<" + ", ".join(name for _, name in forall) + "> " if forall else "") + path({"absolute": whole[0], "ids": whole[1]})
     return text + "(" + ", ".join(map(text_of, parameters)) + ")" + (" -> " + text_of(ret) if ret else "")
 
 
@@ -89,7 +89,8 @@ class Types:
         else:
             self.location, self.token = named("usize"), named("Token", types=[("Lifetime", "'input")])
             self.terminals = {key(t): text for t in terminals_of_entries(tree)}
-        self.error = self.plain(declared["Error"]) if "Error" in declared else ("Ref", "'static", False, named("str"))
+        self.stated_error = self.plain(declared["Error"]) if "Error" in declared else None
+        self.error = self.stated_error or ("Ref", "'static", False, named("str"))
 
     def of_terminal(self, value):
         return self.of_fault("ErrorRecovery") if value == "Error" else self.terminals.get(key(value), self.token)
@@ -127,7 +128,7 @@ class Types:
         if name in ("Nominal", "TraitObject"):
             return name, path_key(content["path"]), types
         count = len(content["parameters"])
-        forall = tuple(one(p)[1] for p in content["forall"])
+        forall = tuple(map(one, content["forall"]))
         return name, forall, path_key(content["path"]), types[:count], types[count] if content["ret"] is not None else None
 
     # ---- rules

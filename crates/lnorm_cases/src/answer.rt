@@ -7,7 +7,7 @@ use crate::cuts::{push_cut_faults, push_cut_reads, push_cut_writes};
 use crate::library_call::push_counts_of;
 use crate::outcome::{Layout, PassCall, push_outcome};
 use crate::readings::twice::{push_beginnings, push_read_twice};
-use crate::runs::{push_cut_trees, push_run};
+use crate::runs::{push_cut_trees, push_run, push_whole_run};
 use crate::scripted::scripted_session;
 use crate::shown::push_or_memory;
 use lalrpop_norm::normalize::Session;
@@ -45,6 +45,7 @@ fn push_called(
 ) {
     match call {
         Call::Lnorm => push_run(alloc, text, words, bytes),
+        Call::Grammar => push_whole_run(alloc, text, words, bytes),
         Call::Library => push_counts_of(alloc, text, bytes),
         Call::CutReads => push_cut_reads(alloc, text, words, bytes),
         Call::CutWrites => push_cut_writes(alloc, text, words, bytes),

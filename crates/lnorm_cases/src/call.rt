@@ -6,6 +6,8 @@ use std::alloc::{AllocError, Global};
 pub(crate) enum Call {
     /// A test case of `lnorm`.
     Lnorm,
+    /// A test case of `lexplain grammar`.
+    Grammar,
     /// The library's call, as README.md shows it.
     Library,
     /// Test cases of it of which each read fails in turn.
@@ -116,6 +118,7 @@ pub(crate) enum Last {
 pub(crate) fn call_of(alloc: Global, name: &str) -> Result<Option<Call>, AllocError> {
     match name {
         "lnorm" => Ok(Some(Call::Lnorm)),
+        "grammar" => Ok(Some(Call::Grammar)),
         "library" => Ok(Some(Call::Library)),
         "cut_reads" => Ok(Some(Call::CutReads)),
         "cut_writes" => Ok(Some(Call::CutWrites)),

@@ -10,6 +10,7 @@ mod copies;
 mod cut;
 mod cuts;
 mod library_call;
+mod lowered;
 mod outcome;
 mod passes;
 pub mod readings;

@@ -2,6 +2,7 @@
 use crate::asks::push_asked;
 use crate::back::push_traced;
 use crate::call::{Last, Pass};
+use crate::lowered::{push_lowered, push_lowered_copy};
 use crate::passes::{Stopped, is_run, tree_after, tree_after_all, typed};
 use crate::shown::{ended, push_or, push_or_memory};
 use crate::without_memory::push_without_memory;
@@ -17,8 +18,6 @@ use lalrpop_norm_macro_expand::macro_expand::{Counts, expand_macros_counted};
 use lalrpop_norm_repr::grammar::repr::Types;
 use lalrpop_norm_tree::grammar::parse_tree::{Grammar, Span};
 use lnorm_texts::faults::push_told;
-use lnorm_texts::lowered::push_lowered_copy;
-use lnorm_texts::print::lowered::{push_lowered, push_whole_lowered};
 use lnorm_texts::print::symbols::{push_span, push_span_line};
 use lnorm_texts::print::tables::{push_types, push_whole_types};
 use lnorm_texts::print::trees::{push_tree, push_whole_tree};
@@ -31,7 +30,7 @@ use std::alloc::Global;
 pub(crate) enum Layout {
     /// In lines.
     Lines,
-    /// The value as its `Debug` has it.
+    /// The value as its `Debug` has it; a lowered grammar as in lines.
     Whole,
     /// In lines, a fault with its message.
     Told,
@@ -268,23 +267,16 @@ fn push_lowered_of(
     made: NormResult<repr::Grammar>,
 ) {
     push_result_of(text, layout, made, |text, lowered| {
-        push_lowered_as(alloc, text, layout, last, lowered)
+        push_lowered_as(alloc, text, last, lowered)
     });
 }
 
-fn push_lowered_as(
-    alloc: Global,
-    text: &mut Text,
-    layout: Layout,
-    last: Last,
-    lowered: &repr::Grammar,
-) {
-    match (last, layout) {
-        (Last::LoweredCopy, _) => push_or_memory(text, |text| {
+fn push_lowered_as(alloc: Global, text: &mut Text, last: Last, lowered: &repr::Grammar) {
+    match last {
+        Last::LoweredCopy => push_or_memory(text, |text| {
             push_lowered_copy(alloc, text, lowered)
         }),
-        (_, Layout::Whole) => push_whole_lowered(text, lowered),
-        _ => push_lowered(text, lowered),
+        _ => push_or_memory(text, |text| push_lowered(alloc, text, lowered)),
     }
 }
 

@@ -1,14 +1,32 @@
-//! Test cases of the program `lnorm`.
-use lnorm_run::run::run;
+//! Test cases of the programs `lnorm` and `lexplain`.
+use lnorm_run::printing::{Afterwards, Form, Printing};
+use lnorm_run::run::{run, run_with};
+use lnorm_streams::halt::Program;
 use lnorm_texts::text::Text;
 use std::alloc::Global;
 
-/// What the program writes on both streams, and its exit status.
+/// How `lexplain grammar` prints.
+const WHOLE: Printing = Printing {
+    program: Program::Lexplain,
+    form: Form::Json,
+    afterwards: Afterwards::LetGo,
+};
+
+/// What `lnorm` writes on both streams, and its exit status.
 pub(crate) fn push_run(alloc: Global, text: &mut Text, words: &[String], bytes: &[u8]) {
     let mut input = bytes;
     let mut output = Vec::new(alloc);
     let mut faults = Vec::new(alloc);
     let status = run(alloc, words, &mut input, &mut output, &mut faults);
+    push_ended(text, status, &output, &faults);
+}
+
+/// What `lexplain grammar` writes on both streams, with the options behind the grammar's name, and its exit status.
+pub(crate) fn push_whole_run(alloc: Global, text: &mut Text, words: &[String], bytes: &[u8]) {
+    let mut input = bytes;
+    let mut output = Vec::new(alloc);
+    let mut faults = Vec::new(alloc);
+    let status = run_with(alloc, words, &mut input, &mut output, &mut faults, WHOLE);
     push_ended(text, status, &output, &faults);
 }
 

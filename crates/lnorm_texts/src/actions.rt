@@ -69,6 +69,11 @@ fn push_action(alloc: Global, text: &mut Text, kind: Result<ActionFnDefnKind, No
     push_debug_line(text, "action ", copy_of(action(alloc, kind)));
 }
 
+/// An action that calls another one, whose type is `usize`.
+pub(crate) fn inline_defn(alloc: Global) -> Result<ActionFnDefn, NoMemory> {
+    action(alloc, inline_kind(alloc))
+}
+
 /// An action of that kind, whose type is `usize`.
 fn action(
     alloc: Global,

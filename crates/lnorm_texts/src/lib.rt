@@ -1,5 +1,5 @@
-//! The texts of test cases: the printed forms of trees, tables and lowered grammars, and what a tree in JSON does not show
-//! (values that calls make, texts of parts, parts that have no form in JSON).
+//! The texts of test cases: the printed forms of trees and tables, and what a tree in JSON does not show (values that calls
+//! make, texts of parts, parts that have no form in JSON).
 #![tactic(auto)]
 
 mod actions;

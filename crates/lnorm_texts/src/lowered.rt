@@ -1,30 +1,26 @@
-//! Copies of lowered grammars.
-use crate::actions::parameter;
+//! What is added to a lowered grammar, and what is asked of it.
+use crate::actions::{inline_defn, parameter};
 use crate::made::{add_made, push_shown, show_made};
 use crate::names::{input, named, rule_name};
-use crate::print::lowered::push_lowered;
 use crate::text::Text;
 use lalrpop_norm_repr::grammar::repr::{self, ActionFn, TerminalString};
 use std::alloc::Global;
 
-/// The copy of the lowered grammar, and what is asked of it with two parameters more.
-pub fn push_lowered_copy(alloc: Global, text: &mut Text, lowered: &repr::Grammar) {
-    match lowered.clone() {
-        Ok(mut copy) => push_asked(alloc, text, &mut copy),
-        Err(_) => text.lack(),
-    }
+/// Two parameters, two type parameters and an action more.
+pub fn add_parts(alloc: Global, text: &mut Text, lowered: &mut repr::Grammar) {
+    add_parameters(alloc, text, lowered);
+    add_made(text, &mut lowered.action_fn_defns, inline_defn(alloc));
 }
 
-fn push_asked(alloc: Global, text: &mut Text, copy: &mut repr::Grammar) {
-    push_lowered(text, copy);
-    add_parameters(alloc, text, copy);
-    push_references(alloc, text, copy);
-    push_productions_of(alloc, text, copy, "S");
-    push_productions_of(alloc, text, copy, "U");
-    text.show(copy.terminals.bits.len());
+/// What is asked of the lowered grammar.
+pub fn push_look_ups(alloc: Global, text: &mut Text, lowered: &repr::Grammar) {
+    push_references(alloc, text, lowered);
+    push_productions_of(alloc, text, lowered, "S");
+    push_productions_of(alloc, text, lowered, "U");
+    text.show(lowered.terminals.bits.len());
     text.put(" terminals with a number\n");
-    push_patterns(text, copy);
-    push_fallible(text, copy);
+    push_patterns(text, lowered);
+    push_fallible(text, lowered);
 }
 
 /// The pattern of each terminal that has one.

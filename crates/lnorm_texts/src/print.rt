@@ -1,6 +1,5 @@
-//! The printed forms of written trees, tables of types and lowered grammars. docs/work/CASES.md has their grammar.
+//! The printed forms of written trees and tables of types. docs/work/CASES.md has their grammar.
 pub mod attributes;
-pub mod lowered;
 mod rules;
 pub mod symbols;
 pub mod tables;

@@ -24,7 +24,7 @@ fn push_item_types(text: &mut Text, item: &GrammarItem, types: &Types) {
 }
 
 /// Of a token, of locations where they have one, of the error terminal, and of what a parser answers where it fails.
-pub(crate) fn push_token_types(text: &mut Text, types: &Types) {
+fn push_token_types(text: &mut Text, types: &Types) {
     text.show_line("token: ", types.terminal_token_type());
     if let Some(location) = types.opt_terminal_loc_type() {
         text.show_line("location: ", location);

@@ -29,12 +29,7 @@ fn push_head(text: &mut Text, tree: &Grammar) {
 }
 
 /// For each of the values a line, which begins and ends with those texts.
-pub(crate) fn push_lines<T: fmt::Display>(
-    text: &mut Text,
-    before: &str,
-    values: &[T],
-    after: &str,
-) {
+fn push_lines<T: fmt::Display>(text: &mut Text, before: &str, values: &[T], after: &str) {
     for value in values {
         text.show_between(before, value, after);
     }
