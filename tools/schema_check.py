@@ -1,4 +1,4 @@
-"""Compares docs/use/tree.schema.json with what else defines a tree: `tools/schema --check`.
+"""Compares docs/use/tree.schema.json with what else defines a tree: `tools/schema --check`. (Whole lowered grammars: schema_lowered.py.)
 
 - The table of shapes, crates/lalrpop_norm_json/specs/Shapes.antt: each form, with its fields and variants and what they hold.
   The reader is proved to take what has the shape of a grammar, and nothing else.
@@ -191,17 +191,24 @@ WORD = re.compile(r"\s*([A-Za-z_]+|[][(){},|?:])")
 
 
 def of_formats(path):
+    return Table(dict(BASIC, Span=Form(row=["number", "number"]), **rows_under(path, "### The fields")), "Grammar")
+
+
+def rows_under(path, heading):
+    """The forms of the first block of code under a heading, by their names."""
     with open(path, encoding="utf-8") as file:
-        block = re.search(r"^### The fields$.*?^```\n(.*?)^```$", file.read(), re.M | re.S).group(1)
-    forms = dict(BASIC, Span=Form(row=["number", "number"]))
-    for name, right in re.findall(r"^(\w+) +((?:.*\n)(?: +.*\n)*)", block, re.M):
+        found = re.search(r"^%s$.*?^```\n(.*?)^```$" % re.escape(heading), file.read(), re.M | re.S)
+    if not found:
+        raise Unread("%s: no table under %s" % (path, heading))
+    forms = {}
+    for name, right in re.findall(r"^(\w+) +((?:.*\n)(?: +.*\n)*)", found.group(1), re.M):
         words = WORD.findall(right)
         if "".join(words) != re.sub(r"\s", "", right):
             raise Unread("%s: the fields of %s" % (path, name))
         forms[name] = Form(fields=fields(words, None)) if words[0].islower() else variants(words, True)
         if words:
             raise Unread("%s: %s behind the fields of %s" % (path, " ".join(words[:3]), name))
-    return Table(forms, "Grammar")
+    return forms
 
 
 def taken(words, word):
@@ -241,7 +248,13 @@ def variants(words, is_whole):
         if taken(words, "["):
             found = Form(items=variants(words, False))
             closed(words, "]")
-            return found
+            return Maybe(found) if taken(words, "?") else found
+        if taken(words, "{"):
+            row = [variants(words, False)]
+            closed(words, ":")
+            row.append(variants(words, False))
+            closed(words, "}")
+            return Form(items=Form(row=row))
         name = next_name(words)
         if taken(words, "("):
             places = [variants(words, False)]
@@ -554,6 +567,9 @@ def changed(tree, vocabulary):
 
 # Calls that look at a text as JSON, and don't say whether it is a tree.
 JSON_CALLS = {"read_twice", "beginnings"}
+# How the programs' lines on standard error begin, if the arguments are wrong, and if the text is no tree.
+USAGES = ("standard error: lnorm: usage", "standard error: lexplain: usage")
+NO_TREES = ("standard error: lnorm: not a tree", "standard error: lexplain: the file is no tree")
 
 
 def wanted_readings(root):
@@ -569,13 +585,13 @@ def wanted_readings(root):
         if beside:
             found.setdefault(beside, set())
         text = text.strip("\n")
-        if text in ("no file", "no case", "no such call", "usage", "memory") or text.startswith("standard error: lnorm: usage") \
+        if text in ("no file", "no case", "no such call", "usage", "memory") or text.startswith(USAGES) \
                 or not call or call.startswith("cut_"):
             continue
         if call in JSON_CALLS:
             found.setdefault(name, set())
             continue
-        is_tree = text not in ("not a tree", "no tree") and not text.startswith("standard error: lnorm: not a tree")
+        is_tree = text not in ("not a tree", "no tree") and not text.startswith(NO_TREES)
         found.setdefault(name, set()).add(is_tree)
     return found
 
@@ -595,16 +611,17 @@ def null_places(table):
     return found
 
 
-def check(root, schema, value_of, faults):
+def check(root, schema, value_of, faults, program=None):
     """Prints what agrees and what differs, with counts, and gives the status."""
     try:
-        return compare(root, schema, value_of, faults)
+        return compare(root, schema, value_of, faults, program)
     except Unread as error:
         print("not read: %s" % error)
         return 1
 
 
-def compare(root, schema, value_of, faults):
+def compare(root, schema, value_of, faults, program):
+    import schema_lowered
     wrong = []
 
     def part(title, found):
@@ -676,5 +693,7 @@ def compare(root, schema, value_of, faults):
         len(made), len(chosen), from_files, sum(map(sum, kinds.values()))), found)
     for kind, (no, yes) in sorted(kinds.items()):
         print("  %s: %d are no trees, %d still are" % (kind, no, yes))
-    print("tools/schema: %s" % ("%d differences" % len(wrong) if wrong else "the schema, the reader, docs/use/FORMATS.md and the cases agree"))
+    schema_lowered.check(root, program, part)
+    agree = "the schemas, the reader, the writer, docs/use/FORMATS.md and the cases agree"
+    print("tools/schema: %s" % ("%d differences" % len(wrong) if wrong else agree))
     return 1 if wrong else 0
