@@ -1,7 +1,7 @@
 /* The programs lnorm and lexplain for callers: texts go in and out as bytes.
  *
- * The library is crates/lnorm_c/out/liblnorm_c.a. It calls malloc, realloc and free of the program that links it, through the
- * toolchain's c/liblibc_c.a, and nothing else. docs/use/FROM_RUST_AND_C.md says how to make and link both.
+ * The library is liblnorm_c.a, which `tools/library` makes. It calls malloc, realloc and free of the program that links it, and nothing
+ * else. docs/use/FROM_RUST_AND_C.md says how to make and link it.
  *
  * Calls keep no state, and the caller frees nothing that they answer. Calls may run at once, in any threads.
  *
@@ -13,7 +13,7 @@
  *   that divides its size.
  * - No call is made in a signal handler, nor in the forked child of a process with threads.
  * - The stack is large enough: docs/use/FROM_RUST_AND_C.md has figures.
- * - The names below, and rattle_alloc, rattle_realloc and rattle_dealloc, mean the functions of these two archives alone.
+ * - The names below, and rattle_alloc, rattle_realloc and rattle_dealloc, mean the functions of this archive alone.
  */
 #ifndef LNORM_H
 #define LNORM_H
@@ -27,7 +27,7 @@ extern "C" {
 
 /* The statuses: the exit statuses of the programs (docs/use/FORMATS.md). */
 enum {
-    /* The output is the lines that were asked for; there is no line of faults. */
+    /* The output is the text that was asked for; there is no line of faults. */
     LNORM_DONE = 0,
     /* The grammar, or the tree that is to be explained, has a fault. The line of faults has its error code, and its span or path. */
     LNORM_FAULT = 1,
@@ -55,11 +55,22 @@ struct lnorm_answer {
  *          the last one included. Without arguments the size is 0.
  * input    a tree in JSON (docs/use/FORMATS.md).
  * output   the lines of the lowered grammar, each ended by a line feed; not ended by a zero byte. What they do not show, as which
- *          nonterminals are inline, is listed there.
+ *          nonterminals are inline, is listed there; lnorm_whole answers all of it.
  * faults   the line of faults, as that of the program on standard error.
  *
  * A buffer may have no room: then the call answers the size. What is behind a text in its buffer stays as it was. */
 struct lnorm_answer lnorm_run(
+    const char *words, size_t words_size,
+    const char *input, size_t input_size,
+    char *output, size_t output_room,
+    char *faults, size_t faults_room);
+
+/* Lowers a grammar, and answers the whole of the lowered grammar as JSON, as `lexplain grammar` does.
+ *
+ * words, input, faults   those of lnorm_run.
+ * output                 one line of JSON, `{"grammar":{..},"origins":null}`, with a line feed behind it (docs/use/FORMATS.md). With
+ *                        --origins "origins" is the list of the origins of the actions, by their numbers. */
+struct lnorm_answer lnorm_whole(
     const char *words, size_t words_size,
     const char *input, size_t input_size,
     char *output, size_t output_room,
@@ -80,7 +91,7 @@ struct lnorm_answer lnorm_explain(
     char *output, size_t output_room,
     char *faults, size_t faults_room);
 
-/* The version of the forms of trees and lines (docs/use/FORMATS.md). */
+/* The version of the forms of trees, lines and lowered grammars in JSON (docs/use/FORMATS.md): 2. In version 1 there was no lnorm_whole. */
 uint32_t lnorm_form_version(void);
 
 /* The toolchain that the library was proved and built with. Its line, without a line feed, is put into the buffer, as much as there is room

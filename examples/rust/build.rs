@@ -1,52 +1,40 @@
-//! Finds the library and what of the toolchain is linked with it, or says what is missing.
+//! Finds the static library and links it, or says what is missing.
+//!
+//! It is, in this order:
+//!
+//! 1. what the environment variable `LNORM_LIBRARY` names: a path of `liblnorm_c.a`, under any name that begins with `lib`;
+//! 2. `out/library/liblnorm_c.a` at the top of the repository, two folders above this package, where `tools/library` makes it;
+//! 3. `lib/liblnorm_c.a` there, in an installed package.
+//!
+//! A copy of this package elsewhere needs the variable. The archive needs nothing but a C library; no Rattle is asked for.
 use std::env;
 use std::path::{Path, PathBuf};
-use std::process::{exit, Command};
+use std::process::exit;
 
-/// The library, from the top of the repository.
-const LIBRARY: &str = "crates/lnorm_c/out/liblnorm_c.a";
-/// The one command that makes it, there.
-const HOW: &str = "cd crates/lnorm_c && rt lib";
+/// Where the library may be, from two folders above.
+const PLACES: [&str; 2] = ["out/library/liblnorm_c.a", "lib/liblnorm_c.a"];
+/// The one command that makes it.
+const HOW: &str = "This makes it, at the top of the repository:\n    tools/library";
 
 fn main() {
     println!("cargo:rerun-if-env-changed=LNORM_LIBRARY");
-    let library = match env::var_os("LNORM_LIBRARY") {
-        Some(path) => PathBuf::from(path),
-        None => repository().join(LIBRARY),
+    let places = match env::var_os("LNORM_LIBRARY") {
+        Some(path) => vec![PathBuf::from(path)],
+        None => PLACES.iter().map(|place| top().join(place)).collect(),
     };
-    println!("cargo:rerun-if-changed={}", library.display());
-    let Ok(library) = library.canonicalize() else {
-        missing(&format!(
-            "the library {} is not there. This makes it, at the top of the repository:\n    {HOW}",
-            library.display()
-        ))
-    };
-    let heap = kit().join("c/liblibc_c.a");
-    if !heap.is_file() {
-        missing(&format!("the toolchain has no {}", heap.display()));
+    for place in &places {
+        println!("cargo:rerun-if-changed={}", place.display());
     }
-    link(&library);
-    link(&heap);
+    match places.iter().find_map(|place| place.canonicalize().ok()) {
+        Some(library) => link(&library),
+        None => missing(&places),
+    }
 }
 
-/// The top of the repository, two folders above this one.
-fn repository() -> &'static Path {
-    let here = Path::new(env!("CARGO_MANIFEST_DIR"));
-    here.ancestors().nth(2).unwrap_or(here)
-}
-
-/// The folder of the toolchain: `rt doc` prints the path of a page in it.
-fn kit() -> PathBuf {
-    let Ok(said) = Command::new("rt").arg("doc").output() else {
-        missing(
-            "the toolchain's command `rt` is not on the PATH; it links the library's calls of malloc, realloc and free",
-        )
-    };
-    let page = String::from_utf8_lossy(&said.stdout);
-    match Path::new(page.trim()).parent() {
-        Some(folder) if said.status.success() => folder.to_path_buf(),
-        _ => missing("`rt doc` names no folder of the toolchain"),
-    }
+/// The top of the repository or of an installed package, two folders above this one.
+fn top() -> PathBuf {
+    let here = PathBuf::from(env::var_os("CARGO_MANIFEST_DIR").unwrap_or_default());
+    here.ancestors().nth(2).unwrap_or(&here).to_path_buf()
 }
 
 /// Links an archive, `libNAME.a`.
@@ -60,7 +48,9 @@ fn link(archive: &Path) {
     );
 }
 
-fn missing(what: &str) -> ! {
-    eprintln!("{what}");
+fn missing(places: &[PathBuf]) -> ! {
+    let places: Vec<String> = places.iter().map(|place| place.display().to_string()).collect();
+    eprintln!("the library is not there: {}. {HOW}", places.join(", "));
+    eprintln!("If it is elsewhere, name its path in the environment variable LNORM_LIBRARY.");
     exit(1)
 }

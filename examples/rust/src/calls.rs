@@ -21,6 +21,16 @@ extern "C" {
         faults: *mut u8,
         faults_room: usize,
     ) -> Answer;
+    fn lnorm_whole(
+        words: *const u8,
+        words_size: usize,
+        input: *const u8,
+        input_size: usize,
+        output: *mut u8,
+        output_room: usize,
+        faults: *mut u8,
+        faults_room: usize,
+    ) -> Answer;
     fn lnorm_explain(
         words: *const u8,
         words_size: usize,
@@ -65,6 +75,26 @@ pub(crate) fn run(words: &[u8], input: &[u8]) -> (Status, Vec<u8>, Vec<u8>) {
         // A slice's pointer is not null. The allocator is that of the C library, and no call is made in a signal handler.
         unsafe {
             lnorm_run(
+                words.as_ptr(),
+                words.len(),
+                input.as_ptr(),
+                input.len(),
+                output.as_mut_ptr(),
+                output.len(),
+                faults.as_mut_ptr(),
+                faults.len(),
+            )
+        }
+    })
+}
+
+/// Lowers a grammar, to JSON: the status, the output and the line of faults.
+pub(crate) fn whole(words: &[u8], input: &[u8]) -> (Status, Vec<u8>, Vec<u8>) {
+    // The JSON of the examples has two to five times the bytes of the tree.
+    with_buffers(input.len().saturating_mul(6), |output, faults| {
+        // SAFETY: as above.
+        unsafe {
+            lnorm_whole(
                 words.as_ptr(),
                 words.len(),
                 input.as_ptr(),

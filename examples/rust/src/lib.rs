@@ -1,37 +1,72 @@
 //! Safe Rust over the proved normalizer of LALRPOP grammars, which is linked as a static library.
 //!
-//! [`normalize`] lowers a grammar, and takes the printed lines apart; [`lowered_text`] answers them as they are printed. [`explain`] goes
-//! back, from a derivation tree of the lowered grammar to the grammar as it was written.
+//! | Call | Answer |
+//! |---|---|
+//! | `grammar`, `grammar_with_origins` | the whole lowered grammar as structs of the module `repr`; with the feature `serde` |
+//! | [`whole_json`] | the same as JSON |
+//! | [`normalize`] | its productions, types and start symbols, taken from the printed lines |
+//! | [`lowered_text`] | these lines |
+//! | [`explain`] | back from a derivation tree of the lowered grammar to the grammar as it was written |
 //!
-//! The lines are all that there is of the lowered grammar: `docs/use/FORMATS.md` lists what they do not show, as which nonterminals are
-//! `inline`.
+//! `docs/use/FORMATS.md` has the forms, and what the lines do not show, as which nonterminals are `inline`.
+//!
+//! Without the feature `serde` no other package is used. With it `serde_json` reads JSON that nests at most 128 deep, which a type does
+//! that nests more than some 40 deep; the feature `unbounded_depth` reads any, with a stack that is large enough for the type.
 
 mod calls;
+mod fault;
 mod lines;
+mod names;
+#[cfg(feature = "serde")]
+mod read;
+#[cfg(feature = "serde")]
+pub mod repr;
 
 pub use calls::{form_version, toolchain};
-pub use lines::{Fault, Lowered, Production};
+pub use fault::Fault;
+pub use lines::{Lowered, Production};
+#[cfg(feature = "serde")]
+pub use read::{grammar, grammar_with_origins};
 
 use calls::Status;
+use names::Names;
 
-/// A lowered grammar.
+/// A lowered grammar, as far as its lines show it.
 ///
 /// `tree` is a tree in JSON, `limit` how many rounds of expansion may generate nonterminals (200 is LALRPOP's), and `features` are those
 /// that are on, for each `cfg` of the grammar.
 ///
-/// Lines are taken apart by their form. If a written name holds `, `, ` = ` or a line feed, its productions are wrong or left out.
+/// # Errors
+///
+/// The first fault of the grammar; or the text is no tree, a feature holds a zero byte, or an allocation failed; or the lines can't be
+/// taken apart, as a name of the tree that stands in them holds one of `,:="()<>[]{}` or a line feed, or is empty, or as both `!` and
+/// something named `error` are used: [`Fault::Unclear`]. Ask for the whole grammar then.
+pub fn normalize(tree: &str, limit: u16, features: &[&str]) -> Result<Lowered, Fault> {
+    Lowered::from_lines(&lowered_text(tree, limit, features)?, &Names::of_tree(tree))
+}
+
+/// The lines of a lowered grammar, as the program `lnorm` prints them. The arguments are those of [`normalize`].
 ///
 /// # Errors
 ///
-/// The first fault of the grammar; or the text is no tree, a feature holds a zero byte, or an allocation failed.
-pub fn normalize(tree: &str, limit: u16, features: &[&str]) -> Result<Lowered, Fault> {
-    Ok(Lowered::from_lines(&lowered_text(tree, limit, features)?))
-}
-
-/// The lines of a lowered grammar, as the program `lnorm` prints them. Arguments and errors are those of [`normalize`].
+/// Those of [`normalize`], but that lines can't be taken apart.
 pub fn lowered_text(tree: &str, limit: u16, features: &[&str]) -> Result<String, Fault> {
     let words = words_of(limit, features)?;
     answered(calls::run(&words, tree.as_bytes()))
+}
+
+/// The whole lowered grammar as JSON, one line with its line feed, as `lexplain grammar` prints it; `with_origins` says whether it has the
+/// origins of the actions, as with `--origins`. The other arguments are those of [`normalize`].
+///
+/// # Errors
+///
+/// Those of [`lowered_text`].
+pub fn whole_json(tree: &str, limit: u16, features: &[&str], with_origins: bool) -> Result<String, Fault> {
+    let mut words = words_of(limit, features)?;
+    if with_origins {
+        words.extend_from_slice(b"--origins\0");
+    }
+    answered(calls::whole(&words, tree.as_bytes()))
 }
 
 /// The lines of the tree of the grammar as it was written that corresponds to a derivation tree of the lowered grammar, before inlining;
@@ -39,7 +74,7 @@ pub fn lowered_text(tree: &str, limit: u16, features: &[&str]) -> Result<String,
 ///
 /// # Errors
 ///
-/// The first fault of the grammar or of the derivation tree; or those of [`normalize`].
+/// The first fault of the grammar or of the derivation tree; or those of [`lowered_text`].
 pub fn explain(tree: &str, lines: &str, limit: u16, features: &[&str]) -> Result<String, Fault> {
     let words = words_of(limit, features)?;
     answered(calls::explain(&words, tree.as_bytes(), lines.as_bytes()))

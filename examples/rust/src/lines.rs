@@ -1,4 +1,6 @@
 //! The lines that the library prints, taken apart.
+use crate::fault::Fault;
+use crate::names::Names;
 use std::fmt;
 
 /// A lowered grammar.
@@ -17,7 +19,7 @@ pub struct Lowered {
 pub struct Production {
     /// Its left side.
     pub nonterminal: String,
-    /// Its symbols, none if it is empty. Terminals and nonterminals are not told apart.
+    /// Its symbols, none if it is empty. A nonterminal is one that has a type; all others are terminals.
     pub symbols: Vec<String>,
     /// The number of its action function.
     pub action: usize,
@@ -34,86 +36,48 @@ impl fmt::Display for Production {
     }
 }
 
-/// Why there is no lowered grammar.
-#[derive(Clone, Debug, PartialEq, Eq)]
-pub enum Fault {
-    /// The grammar, or the tree that was to be explained, has a fault: its error code, as `F27` or `X3`, with its span and message, as
-    /// `301..302: ..`, or the child indexes that lead to it, as `/0/1`.
-    Told {
-        /// The error code.
-        code: String,
-        /// The bytes of the grammar's text, of a fault of a grammar.
-        span: Option<(usize, usize)>,
-        /// The message, or the path in the tree.
-        message: String,
-    },
-    /// Arguments or input are wrong: the line that says so.
-    Refused(String),
-    /// That is no feature: it has a zero byte in it.
-    NoFeature(String),
-    /// An allocation failed, or a pattern is past the size that a regular expression may have.
-    NoMemory,
-}
-
-impl fmt::Display for Fault {
-    fn fmt(&self, out: &mut fmt::Formatter) -> fmt::Result {
-        match self {
-            Fault::Told {
-                code,
-                span: Some((from, to)),
-                message,
-            } => write!(out, "{code} {from}..{to}: {message}"),
-            Fault::Told {
-                code,
-                span: None,
-                message,
-            } => write!(out, "{code} {message}"),
-            Fault::Refused(line) => out.write_str(line),
-            Fault::NoFeature(feature) => write!(out, "a feature has a zero byte in it: {feature:?}"),
-            Fault::NoMemory => out.write_str("out of memory"),
-        }
-    }
-}
-
-impl std::error::Error for Fault {}
-
-impl Fault {
-    /// The fault of a line of faults.
-    pub(crate) fn from_line(line: &str) -> Fault {
-        let line = line.strip_suffix('\n').unwrap_or(line);
-        let (code, rest) = line.split_once(' ').unwrap_or((line, ""));
-        let (span, message) = match rest.split_once(": ") {
-            Some((place, message)) => (span_of(place), message),
-            None => (None, rest),
-        };
-        Fault::Told {
-            code: code.to_string(),
-            span,
-            message: message.to_string(),
-        }
-    }
-}
-
-/// The span of a text such as `12..20`.
-fn span_of(text: &str) -> Option<(usize, usize)> {
-    let (from, to) = text.split_once("..")?;
-    Some((from.parse().ok()?, to.parse().ok()?))
-}
-
 impl Lowered {
-    /// The grammar that the lines are of. What is no such line is left out.
-    pub(crate) fn from_lines(text: &str) -> Lowered {
+    /// The grammar that the lines are of.
+    ///
+    /// # Errors
+    ///
+    /// The first line that is none, or else one that can be read in several ways.
+    pub(crate) fn from_lines(text: &str, names: &Names) -> Result<Lowered, Fault> {
         let mut lowered = Lowered::default();
-        for line in text.lines() {
-            if let Some(production) = production_of(line) {
-                lowered.productions.push(production);
-            } else if let Some(typed) = line.strip_prefix("type ") {
-                lowered.types.extend(pair_of(typed, ": "));
-            } else if let Some(start) = line.strip_prefix("start ") {
-                lowered.starts.extend(pair_of(start, " = "));
-            }
+        for line in text.split_terminator('\n') {
+            lowered.add(line).ok_or_else(|| Fault::Unclear(line.to_string()))?;
         }
-        lowered
+        match lowered.unclear_line(text, names) {
+            Some(line) => Err(Fault::Unclear(line)),
+            None => Ok(lowered),
+        }
+    }
+
+    /// Adds what a line says, if it is one.
+    fn add(&mut self, line: &str) -> Option<()> {
+        if let Some(production) = production_of(line) {
+            self.productions.push(production);
+        } else if let Some(typed) = line.strip_prefix("type ") {
+            self.types.push(pair_of(typed, ": ")?);
+        } else {
+            self.starts.push(pair_of(line.strip_prefix("start ")?, " = ")?);
+        }
+        Some(())
+    }
+
+    /// A line that can be read in several ways, if the names of the tree make one.
+    fn unclear_line(&self, text: &str, names: &Names) -> Option<String> {
+        let unclear = |name: &String| {
+            let at = text.find(name.as_str())?;
+            let start = text[..at].rfind('\n').map_or(0, |feed| feed + 1);
+            text[start..].lines().next().map(str::to_string)
+        };
+        names.unclear.iter().find_map(unclear).or_else(|| {
+            let is_name = names.has_error_terminal || self.types.iter().any(|(name, _)| name == "error");
+            let has_both = |production: &&Production| production.symbols.iter().any(|symbol| symbol == "error");
+            let production = self.productions.iter().find(has_both)?;
+            (is_name && names.has_error_symbol).then(|| production.to_string())
+        })
     }
 }
 

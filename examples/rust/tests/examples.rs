@@ -1,5 +1,5 @@
 //! The six examples, a fault with its place, the way back, and calls from several threads.
-use lnorm::{explain, form_version, lowered_text, normalize, toolchain, Fault, Lowered};
+use lnorm::{explain, form_version, lowered_text, normalize, toolchain, whole_json, Fault, Lowered};
 use std::{fs, thread};
 
 const NAMES: [&str; 6] = ["arithmetic", "calculator", "first", "language", "queries", "sums"];
@@ -81,6 +81,52 @@ fn what_is_no_call_is_refused() {
     );
 }
 
+/// The line that can't be taken apart, if the tree's texts `from` are written as `to`.
+fn unclear(name: &str, from: &str, to: &str) -> Option<String> {
+    let tree = example(&format!("{name}.json")).replace(from, to);
+    match normalize(&tree, 200, &[]) {
+        Ok(_) => None,
+        Err(Fault::Unclear(line)) => Some(line),
+        Err(other) => panic!("{other}"),
+    }
+}
+
+#[test]
+fn names_that_lines_confuse_are_errors() {
+    let unclear_rule = |name: &str| unclear("sums", "\"Sum\"", &format!("\"{name}\""));
+    assert_eq!(unclear_rule("a b"), None);
+    assert_eq!(unclear_rule("S\\u00fc\\ud83d\\ude00m"), None);
+    let group = |name: &str| format!("(<{name}> \";\") = {name}, \";\" => ActionFn(9);");
+    for name in ["a, b", "a = b", "x => ActionFn(3);", "a: b", "a(", "a,", "=", "a<", "]"] {
+        assert_eq!(unclear_rule(name), Some(group(name)));
+    }
+    assert_eq!(unclear_rule("a\\u002c b"), Some(group("a, b")));
+    assert_eq!(unclear_rule("a\\\""), Some(group("a\"")));
+    assert_eq!(unclear_rule("a\\nb").as_deref(), Some("(<a"));
+    assert_eq!(unclear_rule("a\\ntype b").as_deref(), Some("(<a"));
+    assert!(unclear_rule("").is_some());
+}
+
+#[test]
+fn the_rule_error_and_the_error_terminal_are_not_confused() {
+    let line = "Statement = error, \";\" => ActionFn(17);";
+    assert_eq!(unclear("language", "\"Result\"", "\"error\"").as_deref(), Some(line));
+    assert_eq!(unclear("sums", "\"Sum\"", "\"error\""), None);
+}
+
+#[test]
+fn the_whole_grammar_is_json() {
+    let tree = example("sums.json");
+    let json = whole_json(&tree, 200, &[], false).expect("sums");
+    assert!(json.starts_with("{\"grammar\":{\"action_fn_defns\":[") && json.ends_with("},\"origins\":null}\n"));
+    let json = whole_json(&tree, 200, &[], true).expect("sums");
+    assert!(json.contains("\"origins\":[\"Start\",{\"Written\":{\"alternative\":0,\"rule\":\"Sums\"}},"));
+    assert_eq!(
+        whole_json("{}", 200, &[], true),
+        Err(Fault::Refused("lnorm: not a tree".into()))
+    );
+}
+
 #[test]
 fn a_derivation_tree_is_explained() {
     let (grammar, lines) = (example("sums.json"), example("sums.derivation.jsonl"));
@@ -98,7 +144,7 @@ fn a_derivation_tree_is_explained() {
 
 #[test]
 fn the_library_says_what_it_is() {
-    assert_eq!(form_version(), 1);
+    assert_eq!(form_version(), 2);
     assert!(toolchain().starts_with("rattle-kit"), "{}", toolchain());
 }
 
