@@ -1,7 +1,8 @@
 """The line that `--version` prints; a part of tools/lnorm, tools/tree and tools/schema.
 
 There is no release. The line names the LALRPOP that is ported, the version of the forms and the toolchain, as the static library has them
-(crates/lnorm_c/src/versions.rt), and the commit if the tools are run in a checkout.
+(crates/lnorm_c/src/versions.rt), and the commit if the tools are run in a checkout. A package has them in the second line of its file
+VERSION, as they were where tools/package made it.
 """
 import os
 import re
@@ -36,5 +37,14 @@ def commit():
     return ["commit " + ran.stdout.decode().strip()] if ran.returncode == 0 else []
 
 
+def of_package():
+    """The words of a package; none in a checkout."""
+    try:
+        with open(os.path.join(ROOT, "VERSION"), encoding="utf-8") as file:
+            return file.read().splitlines()[1:2]
+    except OSError:
+        return []
+
+
 def version_line(tool):
-    return "%s: %s" % (tool, ", ".join(["LALRPOP " + LALRPOP] + of_library() + commit()))
+    return "%s: %s" % (tool, ", ".join(of_package() or ["LALRPOP " + LALRPOP] + of_library() + commit()))
