@@ -160,7 +160,7 @@ def runs(facts, document, _):
             match = re.fullmatch(r"([a-z0-9-]+(?:, [a-z0-9-]+)*) (\*?[a-z_,]+)((?: .+)?)", code)
             is_run = match and (match.group(2) in facts.calls or match.group(2)[0] == "*" or "-" in match.group(1)
                                 and set(match.group(1).split(", ")) <= facts.trees)
-            if is_run and match.group(1) not in ("lnorm", "rt"):
+            if is_run and match.group(1) not in ("lnorm", "lexplain", "rt"):
                 for tree in match.group(1).split(", ") if ".." not in code.split() else ():
                     if not facts.is_run(tree, match.group(2), match.group(3)):
                         yield number, "`%s %s%s` is no line of crates/cases/stdin" % (tree, match.group(2), match.group(3))
