@@ -31,12 +31,14 @@ pub mod RealizedRules
 pub mod RootSteps
 pub mod TwoSteps
 pub mod PlainTrees
+pub mod KnownNonterminals
 pub mod TreesFaithful
 pub mod TracedOrigins
 pub mod TreesMacros
 pub mod TreesStarts
 pub mod NarrowLevels
 pub mod WrittenCalls
+pub mod AmbiguousRules
 pub mod RootNames
 pub mod TracedLemmas
 pub mod StartExamples

@@ -29,10 +29,10 @@ use Rattle.lalrpop_norm.specs.Faithful.{grammar_with_levels, grammar_of_plain_ru
 use Rattle.lalrpop_norm.specs.Normalize.{early_faults, plain_findings, normalize_findings}
 use Rattle.lalrpop_norm.specs.PlainLaws.{PassesExpansion}
 use Rattle.lalrpop_norm.specs.TracedLists.{lists_with_levels, lists_of_plain_rules}
-use Rattle.lalrpop_norm.specs.WayBack.{AreRoots}
+use Rattle.lalrpop_norm.specs.WayBack.{AreRoots, FitsAnywhere}
 use Rattle.lalrpop_norm.proofs.ComposedFaithful.{flat, names_free}
 use Rattle.lalrpop_norm.proofs.TracedOrigins.{lists_are_action_origins}
-use Rattle.lalrpop_norm.proofs.WrittenCalls.{calls_fit}
+use Rattle.lalrpop_norm.proofs.WrittenCalls.{calls_fit, call_fits_anywhere}
 
 -- ---- the passes up to the expansion
 
@@ -103,3 +103,12 @@ traced_fit fs g limit l trees os same is_rule are P reads =
     let all : P ≡ derivations (origins_of_actions fs g limit) l =
     fun_ext reads ∙ ap (λ (xs : List Origin). derivations xs l) same in
     subst (λ (Q : ProductionTable). CallsFit (written_meaning fs g) (written_name fs g) Q is_rule) (sym all) (calls_fit fs g limit l trees is_rule are)
+
+-- and so does the call whose trees begin anywhere
+pub traced_anywhere : (fs : Features) (g : GrammarData) (limit : ℕ) (l : LoweredGrammar) → HasFaithfulTrees fs g limit l →
+    (os : List Origin) → os ≡ origins_of_actions fs g limit →
+    (P : ProductionTable) → ((n : Name) → P n ≡ derivations os l n) → FitsAnywhere fs g limit P
+traced_anywhere fs g limit l trees os same P reads =
+    let all : P ≡ derivations (origins_of_actions fs g limit) l =
+    fun_ext reads ∙ ap (λ (xs : List Origin). derivations xs l) same in
+    subst (λ (Q : ProductionTable). FitsAnywhere fs g limit Q) (sym all) (call_fits_anywhere fs g limit l trees)

@@ -1,4 +1,5 @@
 -- The derivation trees of what a grammar is lowered to correspond one to one to the written trees.
+use Rattle.std.specs.Prelude.{true}
 use Rattle.std.proofs.Common.{append-nil, ◌≡◌, inl, inr, ℕ, List, [], ◌∷◌, ◌++◌, length, refl, sym, ap, ◌∙◌, subst}
 use Rattle.std.specs.Prelude.{flat_map, Option, Some, None}
 use Rattle.std.proofs.lemmas.Grind.{flat_map-append}
@@ -12,7 +13,7 @@ use Rattle.lalrpop_norm_theory.specs.Met.{expanded_symbols, IsKnown}
 use Rattle.lalrpop_norm_theory.specs.Tables.{Realizes, table}
 use Rattle.lalrpop_norm_theory.specs.Rounds.{In}
 use Rattle.lalrpop_norm_theory.specs.Laws.{OneToOne, PairsInTwoSteps, level_named}
-use Rattle.lalrpop_norm_theory.proofs.RoundsLemmas.{in_cases}
+use Rattle.lalrpop_norm_theory.proofs.RoundsLemmas.{in_cases, in_right}
 use Rattle.lalrpop_norm_conditions.specs.Conditions.{comparison}
 use Rattle.lalrpop_norm_resolve.specs.NameFaults.{resolve_faults}
 use Rattle.lalrpop_norm_resolve.proofs.ResolvedFaults.{faults_gone}
@@ -36,8 +37,13 @@ use Rattle.lalrpop_norm_model.specs.CheckedTokens.{IsEnteredWith, IsEntered}
 use Rattle.lalrpop_norm_model.proofs.ResolvedLemmas.{resolved_once}
 use Rattle.lalrpop_norm_model.proofs.PlainReadLemmas.{origins_counted, plain_rules_are_read}
 use Rattle.lalrpop_norm_model.proofs.WrittenLeveled.{names_written}
+use Rattle.lalrpop_norm_model.proofs.LevelLemmas.{in_map, of_map}
+use Rattle.lalrpop_norm_model.specs.Expanded.{rule_names}
+use Rattle.lalrpop_norm_theory.proofs.Expansion.{nothing_new_whole}
 use Rattle.lalrpop_norm_model.proofs.FaithfulLemmas.{plain_grammars_hold_plain_rules}
 use Rattle.lalrpop_norm_explain.specs.Derivations.{derivations}
+use Rattle.lalrpop_norm_explain.specs.TreeFaults.{has_productions}
+use Rattle.lalrpop_norm_explain.specs.Anywhere.{IsNonterminalOf, IsMeant}
 use Rattle.lalrpop_norm.specs.Faithful.{HasStart, lowered_name, start_of, traced_derivations, written_meaning, written_name, written_symbols}
 use Rattle.lalrpop_norm.specs.Laws.{HasFlatMacros, HasOwnNames, LoweredTreesAreFaithful}
 use Rattle.lalrpop_norm.proofs.ScopedLemmas.{names_once, leveled_scoped, settled, levels_resolved}
@@ -45,9 +51,11 @@ use Rattle.lalrpop_norm.proofs.ShapeTrees.{AreFree}
 use Rattle.lalrpop_norm.proofs.PlainShape.{distinct_listed, free_listed, shape_derivations}
 use Rattle.lalrpop_norm.proofs.StartProductions.{start_listed, start_production, start_derivations, start_written}
 use Rattle.lalrpop_norm.proofs.TreesPublic.{public_rule}
+use Rattle.lalrpop_norm.proofs.GroundedTypes.{public_in}
+use Rattle.lalrpop_norm.proofs.KnownNonterminals.{made_known, start_or_rule}
 use Rattle.lalrpop_norm.proofs.PlainTrees.{has_rules, held_trees}
 use Rattle.lalrpop_norm.proofs.TwoSteps.{paired_in_steps}
-use Rattle.lalrpop_norm.proofs.TreesWritten.{root_of, reference_of, text_written, written_whole, written_fit}
+use Rattle.lalrpop_norm.proofs.TreesWritten.{root_of, reference_of, text_written, written_whole, written_fit, written_names}
 
 -- the symbol of a rule is the nonterminal of its text
 pub rule_symbol : (rs : List WrittenRule) (s : ClosedSymbol) → In s (roots rs ++ references rs) → symbol_of (text_in rs) s ≡ nonterminal_symbol (text_in rs s)
@@ -154,6 +162,42 @@ module _ {value : ConditionValue} {fs : Features} {g : GrammarData} {n : ℕ} {c
       (sym (entered_same plain checked W.entered).1)
       ∙ start_derivations checked (all_rules plain) types l shaped (distinct_listed (all_rules plain) W.names.once) free_names (plain_origins M (references ws) n) r i
 
+  -- the rule of a name is that of a known symbol
+  symbol_there : (m : Name) → In m (rule_names plain) →
+      (s : ClosedSymbol) × IsKnown (roots ws ++ references ws) (expanded_symbols M (references ws) n) s × IsNonterminalOf name s m
+  symbol_there m i =
+      let (s, j, e) = of_map name m (plain_symbols M (references ws) n)
+      (subst (λ (ns : List Name). In m ns) (written_names value fs g W.levels W.settled n) i) in
+      let k : IsKnown (roots ws ++ references ws) (expanded_symbols M (references ws) n) s × IsNonterminalOf name s (name s) =
+      elim (in_cases s (references ws) (expanded_symbols M (references ws) n) j) [
+        | inl d ↦ (let (x, b, is) = reference_of ws s d in (
+          subst (IsKnown (roots ws ++ references ws) (expanded_symbols M (references ws) n)) (sym is)
+              (subst (λ (x : ClosedSymbol). In x (roots ws ++ references ws)) is (in_right s (roots ws) (references ws) d)),
+          rule_symbol ws s (in_right s (roots ws) (references ws) d),
+        ))
+        | inr d ↦ made_known name (roots ws ++ references ws) (expanded_symbols M (references ws) n) s
+            ((nothing_new_whole M (references ws) n (written_whole value fs g W.levels W.settled n W.whole)).expanded s d) d
+      ] in
+      (s, k.0, subst (IsNonterminalOf name s) (sym e) k.1)
+
+  -- what has productions is that of a known symbol, or a start symbol over one
+  pub lowered_meant : (m : Name) → has_productions P m ≡ true →
+      IsMeant name P (IsKnown (roots ws ++ references ws) (expanded_symbols M (references ws) n)) m
+  lowered_meant m h =
+      let origins = action_origins (length (public_rules_in (all_rules plain))) M (references ws) n in
+      elim (start_or_rule checked.prefix (all_rules plain) l origins m (shaped.nonterminals.holds (record { 0 = m })) h) [
+        | inl w ↦ (let (s, k, at) = symbol_there w.0.name.0 (in_map (λ (r : RuleData). r.name.0) w.0 (all_rules plain) (public_in (all_rules plain) w.0 w.1)) in (
+          s,
+          w.0.name.0,
+          k,
+          at,
+          inr (
+              ap P (w.2 ∙ ap (λ (prefix : Name). prefix ++ w.0.name.0) (entered_same plain checked W.entered).1) ∙ lowered_starts w.0 w.1),
+        ))
+        | inr w ↦ (let (s, k, at) = symbol_there w.0.name.0 (in_map (λ (r : RuleData). r.name.0) w.0 (all_rules plain) w.1) in
+            (s, w.0.name.0, k, at, inl w.2))
+      ]
+
 -- ---- from the absence of faults
 
 module _ (fs : Features) (g : GrammarData) (faults : resolve_faults (enabled_grammar fs g) ≡ []) (macros : HasFlatMacros (prepared_grammar fs g))
@@ -200,6 +244,7 @@ lowered_trees_faithful fs g faults macros level_faults rounds whole names checke
     record {
       whole = written_whole comparison fs g lowered.levels lowered.settled rounds whole;
       realized = lowered_realizes lowered;
+      meant = lowered_meant lowered;
       one_to_one = lowered_trees lowered;
       in_steps = λ s i. record {
         steps = lowered_in_steps lowered s i;

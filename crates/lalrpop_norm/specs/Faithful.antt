@@ -34,6 +34,8 @@ pub use Rattle.lalrpop_norm_tyinfer.specs.Inferred.{IsInferred}
 use Rattle.lalrpop_norm_lower.specs.Lowering.{public_rules_in, start_name}
 use Rattle.lalrpop_norm_lower.specs.Shape.{IsLoweringOf}
 use Rattle.lalrpop_norm_explain.specs.Derivations.{derivations}
+use Rattle.lalrpop_norm_explain.specs.TreeFaults.{has_productions}
+use Rattle.lalrpop_norm_explain.specs.Anywhere.{IsMeant}
 use Rattle.lalrpop_norm.specs.Words.{IsWrittenWord, IsWordOf}
 
 -- ---- the grammars on the way
@@ -49,6 +51,10 @@ module _ (fs : Features) (g : GrammarData) where
 
   abbrev pub written_symbols : List ClosedSymbol
   written_symbols = roots (written_rules fs g) ++ written_references
+
+  -- the known symbols: the written ones, and those for which so many rounds make rules
+  abbrev pub IsKnownSymbol : ℕ → ClosedSymbol → Type 0
+  IsKnownSymbol rounds = IsKnown written_symbols (expanded_symbols written_meaning written_references rounds)
 
   -- the text that a written symbol has as its name in the lowered grammar
   abbrev pub written_name : ClosedSymbol → Name
@@ -138,8 +144,10 @@ module _ (fs : Features) (g : GrammarData) (rounds : ℕ) (l : LoweredGrammar) w
   -- generate.
   pub record HasFaithfulTrees : Type 0 where
     pub whole : (expansion M (written_references fs g) rounds).fresh ≡ []
-    pub realized : Realizes M name traced_derivations
-        (IsKnown (written_symbols fs g) (expanded_symbols M (written_references fs g) rounds))
+    pub realized : Realizes M name traced_derivations (IsKnownSymbol fs g rounds)
+    -- each nonterminal that has productions is that of a known symbol, or a start symbol over one
+    pub meant : (n : Name) → has_productions traced_derivations n ≡ true →
+        IsMeant name traced_derivations (IsKnownSymbol fs g rounds) n
     pub one_to_one : (s : ClosedSymbol) → In s (written_symbols fs g) → OneToOne M name traced_derivations s
     pub in_steps : (s : ClosedSymbol) → In s (written_symbols fs g) → IsMadeInSteps s
     pub starts : (r : RuleData) → In r (all_rules (enabled_grammar fs g)) → r.args ≡ [] →

@@ -4,6 +4,6 @@
 //! from.
 
 pub use lalrpop_norm_explain::{
-    ExplainError, ExplainFault, LoweredTree, Traced, WrittenTree, explain, lower_tree,
+    ExplainError, ExplainFault, LoweredTree, Traced, WrittenTree, explain, explain_at, lower_tree,
 };
 pub use lalrpop_norm_origins::Origin;

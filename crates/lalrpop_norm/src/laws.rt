@@ -3,7 +3,7 @@
 ghost use Rattle.lalrpop_norm.specs.Laws.{CapIsExact, ConditionsHaveOneValue, FaultsAreByRound, LevelsSettleMacros, LoweredTreesAreFaithful, NamesAreOwn, WordsAreEqual};
 ghost use Rattle.lalrpop_norm.specs.Laws.{EachClassHasOneRule, ListsAreActionOrigins, ResolvedGrammarsAreSettled, SharedNamesStandExactly};
 ghost use Rattle.lalrpop_norm.specs.Maps.{PatternsCompose, BoundsCompose};
-ghost use Rattle.lalrpop_norm.specs.WayBack.{LevelsAreNarrow, TracedCallsFit};
+ghost use Rattle.lalrpop_norm.specs.WayBack.{LevelsAreNarrow, RulesAreAmbiguousExactly, TracedCallsFit, TracedCallFitsAnywhere};
 
 /// The trees of what an expanded grammar is lowered to, once it has its tokens, correspond one to one to the written trees,
 /// with the same words and the same written alternatives, for each rule by itself and within each of its levels. Each enabled
@@ -92,6 +92,20 @@ pub fn levels_are_narrow()
 /// and each undoes the other.
 pub fn traced_calls_fit()
     ensures { TracedCallsFit }
+{}
+
+/// Over a lowered grammar with faithful trees, each action with its origin, `explain_at` reads a derivation tree of a known
+/// symbol's nonterminal as the corresponding tree of that symbol, and one of a start symbol as a tree of its rule; and each
+/// nonterminal that has productions is one of these.
+pub fn traced_call_fits_anywhere()
+    ensures { TracedCallFitsAnywhere }
+{}
+
+/// Ambiguity. In a lowered grammar with faithful trees, as `normalize.faithful` says of its answer, the name of each enabled written
+/// rule that is no macro is ambiguous if and only if the rule is ambiguous as written; likewise the rule within each of its levels.
+/// So if a lowered grammar has no ambiguity, then no such rule has one.
+pub fn rules_are_ambiguous_exactly()
+    ensures { RulesAreAmbiguousExactly }
 {}
 
 /// A condition has one value: if what its left operand is bound to gives it one, as `holds` of `lalrpop_norm_conditions` answers

@@ -17,7 +17,7 @@ ghost use Rattle.lalrpop_norm.specs.Passed.{IsPlain, IsCheckedLowering, IsTypedL
 ghost use Rattle.lalrpop_norm.specs.PlainLaws.{PassesExpansion};
 ghost use Rattle.lalrpop_norm.specs.Roots.{plain_names, with_rule_names};
 ghost use Rattle.lalrpop_norm.specs.TracedLists.{lists_of_plain_rules};
-ghost use Rattle.lalrpop_norm.specs.WayBack.{AreRoots};
+ghost use Rattle.lalrpop_norm.specs.WayBack.{AreRoots, FitsAnywhere};
 
 use crate::traced::{Plain, names_of_written_rules, origins_in_order};
 use lalrpop_norm_explain::{Traced, with_origins};
@@ -58,8 +58,8 @@ pub fn normalize<L: Lexer>(
     check_and_lower(alloc, session, plain)
 }
 
-/// The same as [`normalize`], and where each production comes from: by that [`explain`](lalrpop_norm_explain::explain) and
-/// [`lower_tree`](lalrpop_norm_explain::lower_tree) translate trees.
+/// The same as [`normalize`], and where each production comes from: by that [`explain`](lalrpop_norm_explain::explain),
+/// [`explain_at`](lalrpop_norm_explain::explain_at) and [`lower_tree`](lalrpop_norm_explain::lower_tree) translate trees.
 ///
 /// Errors: those of `normalize`.
 pub fn normalize_traced<L: Lexer>(
@@ -78,6 +78,8 @@ pub fn normalize_traced<L: Lexer>(
     // From there both translations reject what is no tree, answer the corresponding tree, and undo each other.
     ensures calls { IfOk result (λ t. CallsFit (written_meaning (features_view session.now.features) (written.grammar_view grammar))
         (written_name (features_view session.now.features) (written.grammar_view grammar)) (grammar_of t) (is_root t)) }
+    // `explain_at` reads a derivation tree of any nonterminal as the corresponding tree of the symbol that is meant there.
+    ensures anywhere { IfOk result (λ t. FitsAnywhere (features_view session.now.features) (written.grammar_view grammar) session.now.macro_recursion_limit (grammar_of t)) }
 {
     let plain = expand_traced(alloc, session, grammar)?;
     let Plain {

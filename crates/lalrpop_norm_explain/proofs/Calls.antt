@@ -17,7 +17,7 @@ use Rattle.lalrpop_norm_explain.proofs.Derivations.{faultless_rooted}
 use Rattle.lalrpop_norm_explain.proofs.Ways.{ways_inverse}
 
 -- a tree of a rule is a node of it
-is_node : (M : Meaning) (n : Name) (b : Option ℕ) (t : WrittenTree) → IsTreeOf M t (reference n b) → (k : ℕ) × (ts : WrittenTrees) × (t ≡ node n k ts)
+pub is_node : (M : Meaning) (n : Name) (b : Option ℕ) (t : WrittenTree) → IsTreeOf M t (reference n b) → (k : ℕ) × (ts : WrittenTrees) × (t ≡ node n k ts)
 is_node M n b (leaf a) h = absurd h
 is_node M n b nothing h = absurd h
 is_node M n b (list ts) h = absurd h
@@ -79,22 +79,17 @@ module _ (M : Meaning) (C : HasCounts M) (V : HasLevels M) (name : ClosedSymbol 
   pub calls_fit : CallsFit M name P roots
   calls_fit = record {
     explains = λ u. faultless_rooted roots P u;
-    explained = λ u w. let (n, r, d) = w in let b = read u n r d in ((n, r, b.0), (n, r, b.1));
+    explained = read;
     lowers = λ t. (written t, faultless t);
-    lowered = λ t w.
-        let (n, r, h) = w in
+    lowered = λ t n r h.
         let same = root_lowered n r t h in
         let pair : Pairs M name (reference n None) t (lowered_root P most_steps t) = subst (Pairs M name (reference n None) t) (sym same) ((fit n r).paired t h) in
         let forward = (translations_inverse M C V name P declared met R (reference n None) (rooted n r).0) in
         let tree = forward.paired t (lowered_root P most_steps t) pair in
         let down = (forward.forward t h).0 in (
-          (
-            n,
-            r,
-            subst (λ x. IsDerivation P (lowered_root P most_steps t) (nonterminal_symbol x)) (rooted n r).1
-                (subst (λ u. IsDerivation P u (nonterminal_symbol (name (reference n None)))) tree.0 down),
-          ),
-          (n, r, pair),
+          subst (λ x. IsDerivation P (lowered_root P most_steps t) (nonterminal_symbol x)) (rooted n r).1
+              (subst (λ u. IsDerivation P u (nonterminal_symbol (name (reference n None)))) tree.0 down),
+          pair,
         );
     back_forward = λ t w.
         let (n, r, h) = w in

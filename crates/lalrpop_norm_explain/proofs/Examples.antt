@@ -7,7 +7,7 @@ use Rattle.lalrpop_norm_theory.specs.WrittenTrees.{WrittenTree, leaf, list, node
 use Rattle.lalrpop_norm_theory.specs.Translations.{written_tree}
 use Rattle.lalrpop_norm_theory.specs.Tables.{Rule, table}
 use Rattle.lalrpop_norm_explain.specs.declared.errors.ExplainFault.TheVariants.{Root as NoRoot, Production as NoProduction, Child as WrongChild, Shape as NoShape}
-use Rattle.lalrpop_norm_explain.specs.TreeFaults.{first_found, explain_faults}
+use Rattle.lalrpop_norm_explain.specs.TreeFaults.{has_productions, first_found, explain_faults}
 use Rattle.lalrpop_norm_explain.specs.Forms.{production, made_productions, star_form, plus_form, times_form}
 use Rattle.lalrpop_norm_explain.specs.TreeLowering.{lowered_by, lower_faults}
 
@@ -80,6 +80,22 @@ one_child_missing = refl
 
 no_root : first_found (explain_faults s_only lists (lowered_node start_name 0 (lowered_and (over 1) no_lowered))) ≡ Some (NoRoot, [])
 no_root = refl
+
+-- trees that begin at the start symbol and at a list's nonterminal, and at no nonterminal
+start_begins : explain_faults (has_productions lists) lists (lowered_node start_name 0 (lowered_and (over 1) no_lowered)) ≡ []
+start_begins = refl
+
+start_read : written_tree lists (lowered_node start_name 0 (lowered_and (over 1) no_lowered)) ≡ over_written
+start_read = refl
+
+no_element_begins : explain_faults (has_productions lists) lists (lowered_node star_name 0 no_lowered) ≡ []
+no_element_begins = refl
+
+no_element_read : written_tree lists (lowered_node star_name 0 no_lowered) ≡ list no_trees
+no_element_read = refl
+
+no_nonterminal : first_found (explain_faults (has_productions lists) lists (lowered_node (99 ∷ []) 0 no_lowered)) ≡ Some (NoRoot, [])
+no_nonterminal = refl
 
 -- E = E "+" E1 (alternative 1), else a step to E1 = "n" (alternative 0)
 abbrev levels : ProductionTable

@@ -10,6 +10,7 @@ pub mod Examples
 pub mod WaySteps
 pub mod Lowered
 pub mod Calls
+pub mod Anywhere
 pub mod TreeSizes
 pub mod ShapeSteps
 pub mod Origins

@@ -86,23 +86,20 @@ RealizedIsFormed = (M : Meaning) (name : ClosedSymbol → Name) (P : ProductionT
 
 -- ---- the two calls
 
--- t and u correspond at a name at which trees may begin
-abbrev pub IsPaired : Meaning → (ClosedSymbol → Name) → (Name → Bool) → WrittenTree → LoweredTree → Type 0
-IsPaired M name roots t u = (n : Name) × (roots n ≡ true) × Pairs M name (reference n None) t u
-
 -- a tree of a rule at whose name trees may begin
 abbrev pub IsWritten : Meaning → (Name → Bool) → WrittenTree → Type 0
 IsWritten M roots t = (n : Name) × (roots n ≡ true) × IsTreeOf M t (reference n None)
 
--- The two calls. Each finds no fault exactly in the trees of its grammar, and answers the corresponding tree; each undoes the
--- other.
+-- The two calls. Each finds no fault exactly in the trees of its grammar, and answers the corresponding tree, of the same name;
+-- each undoes the other.
 pub record CallsFit (M : Meaning) (name : ClosedSymbol → Name) (P : ProductionTable) (roots : Name → Bool) : Type 0 where
   pub explains : (u : LoweredTree) → (explain_faults roots P u ≡ []) ↔ IsRootedTree roots P u
-  pub explained : (u : LoweredTree) → IsRootedTree roots P u → IsWritten M roots (written_tree P u)
-      × IsPaired M name roots (written_tree P u) u
+  pub explained : (u : LoweredTree) (n : Name) → roots n ≡ true → IsDerivation P u (nonterminal_symbol n) →
+      IsTreeOf M (written_tree P u) (reference n None) × Pairs M name (reference n None) (written_tree P u) u
   pub lowers : (t : WrittenTree) → (lower_faults roots P most_steps t ≡ []) ↔ IsWritten M roots t
-  pub lowered : (t : WrittenTree) → IsWritten M roots t → IsRootedTree roots P (lowered_root P most_steps t)
-      × IsPaired M name roots t (lowered_root P most_steps t)
+  pub lowered : (t : WrittenTree) (n : Name) → roots n ≡ true → IsTreeOf M t (reference n None) →
+      IsDerivation P (lowered_root P most_steps t) (nonterminal_symbol n)
+      × Pairs M name (reference n None) t (lowered_root P most_steps t)
   pub back_forward : (t : WrittenTree) → IsWritten M roots t → written_tree P (lowered_root P most_steps t) ≡ t
   pub forward_back : (u : LoweredTree) → IsRootedTree roots P u → lowered_root P most_steps (written_tree P u) ≡ u
 

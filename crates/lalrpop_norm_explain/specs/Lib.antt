@@ -6,3 +6,4 @@ pub mod Forms
 pub mod Plans
 pub mod TreeLowering
 pub mod Laws
+pub mod Anywhere

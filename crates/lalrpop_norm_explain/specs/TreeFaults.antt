@@ -92,6 +92,14 @@ abbrev pub is_begun : (Name → Bool) → LoweredTree → Bool
 is_begun roots (lowered_leaf a) = false
 is_begun roots (lowered_node n p us) = roots n
 
+abbrev pub is_any : List Production → Bool
+is_any [] = false
+is_any (q ∷ qs) = true
+
+-- the name is that of a nonterminal that has productions
+abbrev pub has_productions : ProductionTable → Name → Bool
+has_productions P n = is_any (P n)
+
 -- faults of a whole tree: of its root, then of the tree
 abbrev pub explain_faults : (Name → Bool) → ProductionTable → LoweredTree → List Found
 explain_faults roots P u = if is_begun roots u then tree_faults P u else (NoRoot, []) ∷ []

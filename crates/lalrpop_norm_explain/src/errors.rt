@@ -8,7 +8,8 @@ use std::alloc::{AllocError, AllocFailed};
 /// What is wrong with a tree.
 #[derive(Clone, Copy, Debug, PartialEq, Eq)]
 pub enum ExplainFault {
-    /// X1: the root is no node, or its name is not that of an enabled written rule without arguments.
+    /// X1: the root is no node, or its name is not that of an enabled written rule without arguments; of `explain_at`, its
+    /// nonterminal has no production.
     Root,
     /// X2: the nonterminal has no production of that index.
     Production,

@@ -1,9 +1,15 @@
 //! What no fault means. Each function is a law: it does nothing, and its contract is a theorem.
 ghost use Rattle.lalrpop_norm_explain.specs.Laws.{FaultlessIsRooted, FaultlessIsPaired, FaultlessComesBack, TreesHaveNoFault, WaysAreInverse, RealizedIsFormed, RealizedCallsFit};
+ghost use Rattle.lalrpop_norm_explain.specs.Anywhere.{FaultlessIsDerived, FaultlessIsReadAnywhere, RealizedCallFitsAnywhere};
 
 /// A lowered tree has no fault exactly where it is a derivation tree of a name at which trees may begin.
 pub fn faultless_is_rooted()
     ensures { FaultlessIsRooted }
+{}
+
+/// For `explain_at`: exactly the derivation trees of nonterminals have no fault.
+pub fn faultless_is_derived()
+    ensures { FaultlessIsDerived }
 {}
 
 /// If the grammar realizes a written one, then what is read from a tree without a fault is a written tree, the corresponding one.
@@ -35,4 +41,16 @@ pub fn realized_is_formed()
 /// to their argument, and undo each other.
 pub fn realized_calls_fit()
     ensures { RealizedCallsFit }
+{}
+
+/// Of a grammar that realizes a written one, `explain_at` reads a derivation tree of a known symbol's nonterminal as the
+/// corresponding tree of that symbol, each such tree of one derivation tree, and one of a start symbol as a tree of its rule.
+pub fn realized_call_fits_anywhere()
+    ensures { RealizedCallFitsAnywhere }
+{}
+
+/// If besides each nonterminal that has productions is that of a known symbol, or a start symbol over one, then `explain_at`
+/// reads each tree without a fault as a tree of a known symbol.
+pub fn faultless_is_read_anywhere()
+    ensures { FaultlessIsReadAnywhere }
 {}

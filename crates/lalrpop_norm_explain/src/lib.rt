@@ -12,7 +12,7 @@ mod trees;
 
 pub use errors::{ExplainError, ExplainFault};
 pub use lowering::lower_tree;
-pub use reading::explain;
+pub use reading::{explain, explain_at};
 pub use traced::Traced;
 pub use traced::lookups::with_origins;
 pub use trees::{LoweredTree, WrittenTree};

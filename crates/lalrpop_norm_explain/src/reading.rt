@@ -1,9 +1,10 @@
 //! Lowered trees read by the origins of their productions.
-ghost use Rattle.std.specs.Prelude.{◌≡◌, IfOk, length, [], ◌∷◌};
+ghost use Rattle.std.specs.Prelude.{◌≡◌, Bool, IfOk, length, [], ◌∷◌};
+ghost use Rattle.lalrpop_norm_theory.specs.Symbols.{Name};
 ghost use Rattle.lalrpop_norm_theory.specs.LoweredTrees.{plus_more};
 ghost use Rattle.lalrpop_norm_theory.specs.Same.{same_closed_terminal};
 ghost use Rattle.lalrpop_norm_theory.specs.Translations.{first_tree, elements, made_by, written_tree, written_each};
-ghost use Rattle.lalrpop_norm_explain.specs.TreeFaults.{Finds, FindsUp, IsFoundUp, is_of, is_begun, child_faults, tree_faults, children_faults, explain_faults, Reads};
+ghost use Rattle.lalrpop_norm_explain.specs.TreeFaults.{Finds, FindsUp, IsFoundUp, is_of, is_begun, has_productions, child_faults, tree_faults, children_faults, explain_faults, Reads};
 ghost use Rattle.lalrpop_norm_model.specs.Reading.{terminal_of};
 ghost use Rattle.lalrpop_norm_origins.specs.Origins.{origin_view};
 ghost use Rattle.lalrpop_norm_explain.specs.Derivations.{tree_symbol, symbols_view};
@@ -32,7 +33,33 @@ pub fn explain(
 ) -> Result<WrittenTree, ExplainError>
     ensures { Finds result (explain_faults (is_root traced.now) (grammar_of traced.now) (lowered_view tree.now)) (λ t. Reads (grammar_of traced.now) (lowered_view tree.now) (written_view t)) }
 {
-    if !begins(traced, tree) {
+    explain_begun(alloc, traced, tree, begins(traced, tree))
+}
+
+/// The same as [`explain`], of a derivation tree that begins at any nonterminal of the lowered grammar: a level, a repeat, a
+/// group, a location symbol, a call of a macro, a start symbol.
+///
+/// The first fault is reported, as by `explain`; X1 says that the root is a leaf, or that its nonterminal has no production.
+pub fn explain_at(
+    alloc: Global,
+    traced: &Traced,
+    tree: &LoweredTree,
+) -> Result<WrittenTree, ExplainError>
+    ensures { Finds result (explain_faults (has_productions (grammar_of traced.now)) (grammar_of traced.now) (lowered_view tree.now)) (λ t. Reads (grammar_of traced.now) (lowered_view tree.now) (written_view t)) }
+{
+    explain_begun(alloc, traced, tree, begins_anywhere(traced, tree))
+}
+
+/// What a tree reads as, if trees begin at its root.
+fn explain_begun(
+    alloc: Global,
+    traced: &Traced,
+    tree: &LoweredTree,
+    begun: bool,
+) -> Result<WrittenTree, ExplainError>
+    ensures { (roots : Name → Bool) → begun ≡ is_begun roots (lowered_view tree.now) → Finds result (explain_faults roots (grammar_of traced.now) (lowered_view tree.now)) (λ t. Reads (grammar_of traced.now) (lowered_view tree.now) (written_view t)) }
+{
+    if !begun {
         return Err(refused(alloc, ExplainFault::Root));
     }
     match explain_node(alloc, traced, tree) {
@@ -48,6 +75,16 @@ fn begins(traced: &Traced, tree: &LoweredTree) -> bool
     match tree {
         LoweredTree::Leaf(_) => false,
         LoweredTree::Node { nonterminal, .. } => traced.is_rule(nonterminal),
+    }
+}
+
+/// Whether the root of a tree is of a nonterminal that has productions.
+fn begins_anywhere(traced: &Traced, tree: &LoweredTree) -> bool
+    ensures { result ≡ is_begun (has_productions (grammar_of traced.now)) (lowered_view tree.now) }
+{
+    match tree {
+        LoweredTree::Leaf(_) => false,
+        LoweredTree::Node { nonterminal, .. } => traced.has_productions(nonterminal),
     }
 }
 

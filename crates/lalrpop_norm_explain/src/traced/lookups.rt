@@ -5,6 +5,7 @@ ghost use Rattle.lalrpop_norm_tree_names.specs.declared.names.NonterminalString.
 ghost use Rattle.lalrpop_norm_repr.specs.Lowered.{lowered_grammar_view};
 ghost use Rattle.lalrpop_norm_origins.specs.Origins.{origin_view, origins_view};
 ghost use Rattle.lalrpop_norm_explain.specs.TracedGrammars.{grammar_in, origins_in, pair_view, is_root, grammar_of, production_in};
+ghost use Rattle.lalrpop_norm_explain.specs.TreeFaults.{has_productions};
 
 use super::Traced;
 use lalrpop_norm_origins::Origin;
@@ -65,6 +66,13 @@ impl Traced {
         ensures { map (production_in self.now) result.now ≡ grammar_of self.now name.now.0 }
     {
         self.grammar.productions_for(name)
+    }
+
+    /// Whether the name is that of a nonterminal that has productions.
+    pub(crate) fn has_productions(&self, name: &NonterminalString) -> bool
+        ensures { result ≡ has_productions (grammar_of self.now) name.now.0 }
+    {
+        !self.productions(name).is_empty()
     }
 
     /// The origin of a production of the grammar.

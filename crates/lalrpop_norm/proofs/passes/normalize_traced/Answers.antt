@@ -12,7 +12,7 @@ use Rattle.lalrpop_norm.specs.Passed.{IsPlain}
 use Rattle.lalrpop_norm.specs.Roots.{start_origins}
 use Rattle.lalrpop_norm.proofs.PassLemmas.{sure_exit, told_behind, plain_is_plain, refused_alike, passed, passed_faithful}
 use Rattle.lalrpop_norm.proofs.RootNames.{are_roots}
-use Rattle.lalrpop_norm.proofs.TracedLemmas.{actions_have, refused_on, none_told, traced_fit}
+use Rattle.lalrpop_norm.proofs.TracedLemmas.{actions_have, refused_on, none_told, traced_fit, traced_anywhere}
 use Rattle.lalrpop_norm.proofs.passes.normalize_traced.Goals as goal
 
 pub returns-in_err-plain-clause-refuses : goal.returns-in_err-plain-clause-refuses
@@ -82,4 +82,22 @@ returns-clause-calls g c =
     ∙ ap (λ is. start_origins (map item_view is) ++ in_one_list (origin_lists c.in_ok-plain.plain.origins.items)) c.deref.ensures.value))
     (is_root c.with_origins.result)
     (are_roots fs tree c.in_ok-plain.plain.rules.keys (is_root c.with_origins.result) c.in_ok-plain.ensures.rules c.with_origins.ensures.rules)
+    (grammar_of c.with_origins.result) (λ n. refl)
+
+pub returns-clause-anywhere : goal.returns-clause-anywhere
+returns-clause-anywhere g c =
+    let fs = features_view c.args.session.now.features in
+    let limit = c.args.session.now.macro_recursion_limit in
+    let tree = written.grammar_view c.args.grammar in
+    let l = lowered.lowered_grammar_view c.in_ok-lowered.lowered in
+    traced_anywhere fs tree limit (grammar_in c.with_origins.result)
+    (subst (λ (x : lowered.LoweredGrammar). HasFaithfulTrees fs tree limit x) (sym c.with_origins.ensures.grammar)
+    (passed_faithful _ fs limit tree l
+    (passed _ fs limit tree (written.grammar_view c.in_ok-plain.plain.grammar) c.in_ok-plain.ensures.passes c.in_ok-plain.ensures.plain l c.in_ok-lowered.ensures.lowered)).trees)
+    (origins_in c.with_origins.result)
+    (c.with_origins.ensures.origins
+    ∙ actions_have fs tree limit c.in_ok-plain.ensures.passes (written.grammar_view c.in_ok-plain.plain.grammar) c.in_ok-plain.ensures.plain
+    (origin_lists c.in_ok-plain.plain.origins.items) c.in_ok-plain.ensures.origins (origins_view c.in_ok-origins.origins.items)
+    (c.in_ok-origins.ensures
+    ∙ ap (λ is. start_origins (map item_view is) ++ in_one_list (origin_lists c.in_ok-plain.plain.origins.items)) c.deref.ensures.value))
     (grammar_of c.with_origins.result) (λ n. refl)
