@@ -20,7 +20,7 @@ import sys
 from itertools import zip_longest
 
 sys.dont_write_bytecode = True
-from wanted_back import NoTree, Refusal, explained, lowered_back, shown_lines, tree_of_lines
+from wanted_back import NoTree, Refusal, Unshown, explained, lowered_back, readings_lines, shown_lines, tree_of_lines, two_trees_of_lines
 from wanted_cuts import cut_faults, cut_reads, cut_writes
 from wanted_forms import Refused, Unknown, canonical, names_text, one, place, terminal, tree_text, type_text
 from wanted_lowered import Lowered, source_name
@@ -568,7 +568,7 @@ def lowered_alone(tree, features):
 
 
 USAGE = {"lnorm": "lnorm [--limit N] [--feature F]... [--origins]",
-         "lexplain": "lexplain explain|lower GRAMMAR [--limit N] [--feature F]..., "
+         "lexplain": "lexplain explain|lower|ambiguous GRAMMAR [--limit N] [--feature F]..., "
                      "or lexplain grammar GRAMMAR [--limit N] [--feature F]... [--origins]"}
 NO_TREE = {"lnorm": "not a tree", "lexplain": "the file is no tree of a grammar"}
 
@@ -612,11 +612,11 @@ PASSES = ("read", "validate", "check_globals", "remove_disabled_decls", "resolve
           "expand_macros", "token_check")
 LAST = ("token_check_scripted", "infer_types", "normalize", "lowered_copy", "copy", "lower", "is_typed", "ask", "texts",
         "normalize_scripted", "without_memory", "expand_macros_counted", "malformed_cfgs", "traced")
-BACK = ("explain", "lower_tree", "there_and_back")
+BACK = ("explain", "explain_at", "lower_tree", "there_and_back", "ambiguous")
 
 
 def back_answer(data, beside, call, words):
-    """What a call of the way back answers for the tree that is named beside the grammar."""
+    """What a call of the way back answers for the tree, or the two trees, that are named beside the grammar."""
     features, limit, _ = settings(words)
     tree = tree_of(data)
     if tree is None:
@@ -625,11 +625,13 @@ def back_answer(data, beside, call, words):
     try:
         if call == "lower_tree":
             return shown_lines(lowered_back(lowered, tree_of_lines(beside, "rule", "alternative")))
-        written = explained(lowered, tree_of_lines(beside, "nonterminal", "production"))
+        if call == "ambiguous":
+            return readings_lines(lowered, two_trees_of_lines(beside, "nonterminal", "production"))
+        written = explained(lowered, tree_of_lines(beside, "nonterminal", "production"), call == "explain_at")
         return shown_lines(lowered_back(lowered, written[0]) if call == "there_and_back" else written)
     except NoTree:
         return "no tree beside it\n"
-    except Refusal as fault:
+    except (Refusal, Unshown) as fault:
         return "%s\n" % fault
 
 

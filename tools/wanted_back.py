@@ -1,5 +1,5 @@
 """The way back, written after docs/use/FORMATS.md and docs/use/FAULTS.md: the corresponding tree of a derivation tree or of a written
-tree. A part of wanted.py.
+tree, and two readings of one yield. A part of wanted.py.
 
 A tree is a tuple: ("leaf", terminal), ("nothing",), ("list", trees) or ("node", name, number, trees). A lowered grammar has, under
 `sources`, the symbols and the origin of each production of a name, and under `roots` the names at which trees may begin. An origin is
@@ -11,7 +11,7 @@ from wanted_shapes import has_shape, value_of
 
 
 class NoTree(Exception):
-    """Lines that are no tree."""
+    """Lines that are no tree, or no two."""
 
 
 class Refusal(Exception):
@@ -21,10 +21,29 @@ class Refusal(Exception):
         super().__init__("%s %s" % (code, "".join("/%d" % i for i in path) or "/"))
 
 
+class Unshown(Exception):
+    """Why two trees show no ambiguity."""
+
+
 # ---- lines
 
 def tree_of_lines(data, name, number):
-    """The one tree that the lines make, each node behind its children."""
+    """The one tree that the lines make."""
+    trees = trees_of_lines(data, name, number)
+    if len(trees) != 1:
+        raise NoTree
+    return trees[0]
+
+
+def two_trees_of_lines(data, name, number):
+    trees = trees_of_lines(data, name, number)
+    if len(trees) != 2:
+        raise NoTree
+    return trees
+
+
+def trees_of_lines(data, name, number):
+    """The trees that the lines make, one behind the other, each node behind its children."""
     trees = []
     try:
         lines = data.decode("utf-8").split("\n")
@@ -32,9 +51,7 @@ def tree_of_lines(data, name, number):
         raise NoTree from None
     for line in lines[:-1] if lines[-1] == "" else lines:
         trees.append(tree_of_line(line, trees, name, number))
-    if len(trees) != 1:
-        raise NoTree
-    return trees[0]
+    return trees
 
 
 def tree_of_line(line, before, name, number):
@@ -84,8 +101,8 @@ def shown_lines(shown):
 
 # ---- from a derivation tree to the written one
 
-def explained(lowered, tree):
-    if tree[0] != "node" or tree[1] not in lowered.roots:
+def explained(lowered, tree, anywhere=False):
+    if tree[0] != "node" or not (lowered.sources.get(tree[1]) if anywhere else tree[1] in lowered.roots):
         raise Refusal("X1", [])
     return read_node(lowered.sources, tree, []), "rule", "alternative"
 
@@ -193,3 +210,42 @@ def lower_node(sources, name, tree, path):
     for above, place in reversed(steps):
         made = ("node", above, place, [made])
     return made
+
+
+# ---- two readings of one yield
+
+def readings_lines(lowered, trees):
+    """The lines of the written trees of two derivation trees, if these show an ambiguity, and that of the path to where they differ."""
+    first, second = (read_as(lowered, tree, which) for tree, which in zip(trees, ("first", "second")))
+    if first[1] != second[1]:
+        raise Unshown("X5")
+    here, there = leaves(first), leaves(second)
+    if here != there:
+        index = next((i for i, (a, b) in enumerate(zip(here, there)) if a != b), min(len(here), len(there)))
+        raise Unshown("X6 %d" % index)
+    if first == second:
+        raise Unshown("X7")
+    lines = "".join(shown_lines((tree, "rule", "alternative")) for tree in (first, second))
+    return lines + json.dumps({"Differ": path_to_difference(first, second)}, separators=(",", ":")) + "\n"
+
+
+def read_as(lowered, tree, which):
+    try:
+        return explained(lowered, tree)[0]
+    except Refusal as fault:
+        raise Unshown("%s %s" % (which, fault)) from None
+
+
+def leaves(tree):
+    """The terminals of a written tree, from left to right."""
+    if tree[0] == "leaf":
+        return [tree[1]]
+    return [a for child in tree[-1] for a in leaves(child)] if tree[0] in ("list", "node") else []
+
+
+def path_to_difference(first, second):
+    """The indices of children that lead to the smallest trees with all that differs."""
+    if first[0] not in ("list", "node") or first[:-1] != second[:-1] or len(first[-1]) != len(second[-1]):
+        return []
+    differ = [i for i, (a, b) in enumerate(zip(first[-1], second[-1])) if a != b]
+    return [differ[0]] + path_to_difference(first[-1][differ[0]], second[-1][differ[0]]) if len(differ) == 1 else []

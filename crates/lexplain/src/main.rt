@@ -1,5 +1,5 @@
-//! Reads a grammar from a file and a tree from standard input, and writes the corresponding tree as lines; or writes the whole
-//! lowered grammar as JSON.
+//! Reads a grammar from a file and a tree from standard input, and writes the corresponding tree as lines, or of two trees what
+//! shows the grammar ambiguous; or writes the whole lowered grammar as JSON.
 #![tactic(auto)]
 
 use lalrpop_norm::normalize::NormFailure;
@@ -62,7 +62,7 @@ fn printed<R: Source>(rt: &HostRuntime, options: &[String], input: &mut R) -> u8
     )
 }
 
-/// Writes the tree that corresponds to the one on standard input. An error is one of the streams or of the file.
+/// Writes what is asked for of the trees on standard input. An error is one of the streams or of the file.
 fn translated(rt: &HostRuntime, words: &[String]) -> io::Result<u8> {
     let alloc = rt.alloc();
     let (file, asked) = match asked_for(alloc, words) {

@@ -57,22 +57,22 @@ mutual
       ∙ lowered_makes u k (all_lowered_forms us ++ ds) ∙ all_lowered_make us (suc k) ds
       ∙ ap (λ j. trees_behind lowered_taken j ds) (omega arith)
 
-one_lowered : (u : LoweredTree) → trees_behind lowered_taken 0 (lowered_forms u) ≡ Some 1
-one_lowered u = ap (trees_behind lowered_taken 0) (sym (append-nil (lowered_forms u))) ∙ lowered_makes u 0 []
+made_of_lowered : (us : LoweredTrees) → trees_behind lowered_taken 0 (all_lowered_forms us) ≡ Some (0 + lowered_count us)
+made_of_lowered us = ap (trees_behind lowered_taken 0) (sym (append-nil (all_lowered_forms us))) ∙ all_lowered_make us 0 []
 
--- no tree has a line that takes more trees than are before it
-pub lowered_lacks : (u : LoweredTree) (us : LoweredTrees) (d : Data) (ds : List Data) → lowered_forms u ≡ all_lowered_forms us ++ (d ∷ ds) → lowered_count us < lowered_taken d → ⊥
-lowered_lacks u us d ds e l =
-    let some = one_lowered u in
+-- no trees have a line that takes more trees than are before it
+pub lowered_lacks : (all us : LoweredTrees) (d : Data) (ds : List Data) → all_lowered_forms all ≡ all_lowered_forms us ++ (d ∷ ds) → lowered_count us < lowered_taken d → ⊥
+lowered_lacks all us d ds e l =
+    let some = made_of_lowered all in
     let none = ap (trees_behind lowered_taken 0) e ∙ all_lowered_make us 0 (d ∷ ds) ∙ lacks lowered_taken d (0 + lowered_count us) ds (omega arith) in
     absurd (cc (some, none))
 
--- the lines of one tree are not those of none or of several
-pub lowered_is_one : (u : LoweredTree) (us : LoweredTrees) → lowered_forms u ≡ all_lowered_forms us → lowered_count us ≡ 1
-lowered_is_one u us e =
-    let one = one_lowered u in
-    let all = ap (trees_behind lowered_taken 0) (e ∙ sym (append-nil (all_lowered_forms us))) ∙ all_lowered_make us 0 [] in
-    let same : 0 + lowered_count us ≡ 1 = cc (one, all) in
+-- lines are those of so many trees alone
+pub lowered_as_many : (us vs : LoweredTrees) → all_lowered_forms us ≡ all_lowered_forms vs → lowered_count us ≡ lowered_count vs
+lowered_as_many us vs e =
+    let these = made_of_lowered us in
+    let those = ap (trees_behind lowered_taken 0) e ∙ made_of_lowered vs in
+    let same : 0 + lowered_count us ≡ 0 + lowered_count vs = cc (these, those) in
     omega arith
 
 -- ---- written trees

@@ -43,9 +43,9 @@ mutual
   all_lowered_fit no_lowered = tt
   all_lowered_fit (lowered_and u us) = both_fit lowered_line_shape (lowered_forms u) (all_lowered_forms us) (lowered_fits u) (all_lowered_fit us)
 
--- no tree has a line that has not the shape of one
-pub lowered_unfit : (u : LoweredTree) (us : LoweredTrees) (d : Data) (ds : List Data) → lowered_forms u ≡ all_lowered_forms us ++ (d ∷ ds) → fits lowered_line_shape d ≡ false → ⊥
-lowered_unfit u us d ds e bad = unfit lowered_line_shape (lowered_forms u) (all_lowered_forms us) d ds (lowered_fits u) e bad
+-- no trees have a line that has not the shape of one
+pub lowered_unfit : (all us : LoweredTrees) (d : Data) (ds : List Data) → all_lowered_forms all ≡ all_lowered_forms us ++ (d ∷ ds) → fits lowered_line_shape d ≡ false → ⊥
+lowered_unfit all us d ds e bad = unfit lowered_line_shape (all_lowered_forms all) (all_lowered_forms us) d ds (all_lowered_fit all) e bad
 
 -- ---- written trees
 

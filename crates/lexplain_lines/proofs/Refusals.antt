@@ -1,5 +1,5 @@
 -- What rejected lines are not: those of a tree.
-use Rattle.std.proofs.Common.{◌≡◌, ◌≢◌, ◌<◌, ℕ, List, [], ◌∷◌, Bor, false, length, Some, Result, Ok, Err, IfOk, refl, sym, ap, subst, ◌∙◌, arith}
+use Rattle.std.proofs.Common.{◌≡◌, ◌≢◌, ◌<◌, ℕ, List, [], ◌∷◌, ◌++◌, Bor, false, length, Some, Result, Ok, Err, IfOk, refl, sym, ap, subst, ◌∙◌, arith}
 use Rattle.std.specs.Str.Iter.{lines_steps}
 use Rattle.std.specs.declared.str.Lines.{Lines}
 use Rattle.std.proofs.lemmas.List.{append-nil}
@@ -18,10 +18,11 @@ use Rattle.lexplain_lines.specs.declared.lowered.LoweredLine.{LoweredLine}
 use Rattle.lexplain_lines.specs.declared.lowered.LoweredLine.TheVariants as lowered_line
 use Rattle.lexplain_lines.specs.declared.written.WrittenLine.{WrittenLine}
 use Rattle.lexplain_lines.specs.declared.written.WrittenLine.TheVariants as written_line
+use Rattle.lexplain_lines.specs.TreeLines.{lowered_count}
 use Rattle.lexplain_lines.specs.LineForms.{AreLines, lowered_forms, all_lowered_forms, written_forms, all_written_forms}
 use Rattle.lexplain_lines.specs.Lines.{lowered_line_form, lowered_line_children, lowered_line_shape, written_line_form, written_line_children, written_line_shape}
 use Rattle.lexplain_lines.proofs.LineLemmas.{lowered_counted, written_counted}
-use Rattle.lexplain_lines.proofs.Counts.{lowered_taken, lowered_lacks, lowered_is_one, written_taken, written_lacks, written_is_one}
+use Rattle.lexplain_lines.proofs.Counts.{lowered_taken, lowered_lacks, lowered_as_many, written_taken, written_lacks, written_is_one}
 use Rattle.lexplain_lines.proofs.Fitting.{lowered_unfit, written_unfit}
 use Rattle.lexplain_lines.proofs.SoFar.{AreSoFar, next_is, same_lines}
 
@@ -35,31 +36,62 @@ lowered_takes (lowered_line.Leaf Error) = refl
 lowered_takes (lowered_line.Node n p count) = refl
 
 module _ (text : List ℕ) (from to : Lines) (xs : List LoweredTree) (x : Bor (List ℕ)) (before : AreSoFar text from (all_lowered_forms (lowered_views xs)))
-    (step : lines_steps from (Some x) to) (u : lowered.LoweredTree) (whole : AreLines text (lowered_forms u)) where
+    (step : lines_steps from (Some x) to) (us : lowered.LoweredTrees) (whole : AreLines text (all_lowered_forms us)) where
   -- the line is none of a tree
   pub lowered_line_refused : ((d : Data) → read x.now ≡ Some d → fits lowered_line_shape d ≡ false) → ⊥
   lowered_line_refused bad =
-      let next = next_is text from to (all_lowered_forms (lowered_views xs)) (lowered_forms u) x before step whole in
-      lowered_unfit u (lowered_views xs) next.0 next.1 next.3 (bad next.0 next.2)
+      let next = next_is text from to (all_lowered_forms (lowered_views xs)) (all_lowered_forms us) x before step whole in
+      lowered_unfit us (lowered_views xs) next.0 next.1 next.3 (bad next.0 next.2)
 
   -- the line takes more trees than there are
   pub lowered_trees_lacking : (l : LoweredLine) → read x.now ≡ Some (lowered_line_form l) → length xs < lowered_line_children l → ⊥
   lowered_trees_lacking l is few =
-      let next = next_is text from to (all_lowered_forms (lowered_views xs)) (lowered_forms u) x before step whole in
+      let next = next_is text from to (all_lowered_forms (lowered_views xs)) (all_lowered_forms us) x before step whole in
       let same : next.0 ≡ lowered_line_form l = cc (next.2, is) in
-      lowered_lacks u (lowered_views xs) next.0 next.1 next.3 (omega (arith, lowered_counted xs, ap lowered_taken same, lowered_takes l))
+      lowered_lacks us (lowered_views xs) next.0 next.1 next.3 (omega (arith, lowered_counted xs, ap lowered_taken same, lowered_takes l))
 
--- the lines are those of no tree, or of several
-pub lowered_trees_not_one : (text : List ℕ) (xs : List LoweredTree) (u : lowered.LoweredTree) → AreLines text (all_lowered_forms (lowered_views xs)) → AreLines text (lowered_forms u) →
-    length xs ≢ 1 → ⊥
-lowered_trees_not_one text xs u are whole other =
-    other (sym (lowered_counted xs) ∙ lowered_is_one u (lowered_views xs) (same_lines text (lowered_forms u) (all_lowered_forms (lowered_views xs)) whole are))
+module _ (text : List ℕ) where
+  -- the lines of one tree, or of two, are those of some trees
+  one_of_lowered : (u : lowered.LoweredTree) → AreLines text (lowered_forms u) → AreLines text (all_lowered_forms (lowered.lowered_and u lowered.no_lowered))
+  one_of_lowered u = subst (AreLines text) (sym (append-nil (lowered_forms u)))
 
--- the tree is the one of the lines
-pub lowered_tree_one : (text : List ℕ) (xs : List LoweredTree) {E : Type 0} (r : Result LoweredTree E) → AreLines text (all_lowered_forms (lowered_views xs)) → IfOk r (λ t. xs ≡ t ∷ []) →
-    IfOk r (λ t. AreLines text (lowered_forms (lowered_view t)))
-lowered_tree_one text xs (Ok t) are e = subst (AreLines text) (ap (λ us. all_lowered_forms (lowered_views us)) e ∙ append-nil (lowered_forms (lowered_view t))) are
-lowered_tree_one text xs (Err x) are e = tt
+  two_of_lowered : (u v : lowered.LoweredTree) → AreLines text (lowered_forms u ++ lowered_forms v) →
+      AreLines text (all_lowered_forms (lowered.lowered_and u (lowered.lowered_and v lowered.no_lowered)))
+  two_of_lowered u v = subst (AreLines text) (ap (λ ds. lowered_forms u ++ ds) (sym (append-nil (lowered_forms v))))
+
+  -- the lines are those of no trees at all
+  pub no_lowered_tree : ((us : lowered.LoweredTrees) → AreLines text (all_lowered_forms us) → ⊥) → (u : lowered.LoweredTree) → AreLines text (lowered_forms u) → ⊥
+  no_lowered_tree none u whole = none (lowered.lowered_and u lowered.no_lowered) (one_of_lowered u whole)
+
+  pub no_lowered_trees : ((us : lowered.LoweredTrees) → AreLines text (all_lowered_forms us) → ⊥) →
+      (u v : lowered.LoweredTree) → AreLines text (lowered_forms u ++ lowered_forms v) → ⊥
+  no_lowered_trees none u v whole = none (lowered.lowered_and u (lowered.lowered_and v lowered.no_lowered)) (two_of_lowered u v whole)
+
+  module _ (xs : List LoweredTree) (are : AreLines text (all_lowered_forms (lowered_views xs))) where
+    as_many : (us : lowered.LoweredTrees) → AreLines text (all_lowered_forms us) → length xs ≡ lowered_count us
+    as_many us whole =
+        sym (lowered_counted xs) ∙ lowered_as_many (lowered_views xs) us (same_lines text (all_lowered_forms (lowered_views xs)) (all_lowered_forms us) are whole)
+
+    -- the lines are those of several trees, or of none
+    pub lowered_trees_not_one : (u : lowered.LoweredTree) → AreLines text (lowered_forms u) → length xs ≢ 1 → ⊥
+    lowered_trees_not_one u whole other = other (as_many (lowered.lowered_and u lowered.no_lowered) (one_of_lowered u whole))
+
+    -- the lines are those of other than two
+    pub lowered_trees_not_two : (u v : lowered.LoweredTree) → AreLines text (lowered_forms u ++ lowered_forms v) → length xs ≢ 2 → ⊥
+    lowered_trees_not_two u v whole other = other (as_many (lowered.lowered_and u (lowered.lowered_and v lowered.no_lowered)) (two_of_lowered u v whole))
+
+    -- the tree is the one of the lines
+    pub lowered_tree_one : {E : Type 0} (r : Result LoweredTree E) → IfOk r (λ t. xs ≡ t ∷ []) → IfOk r (λ t. AreLines text (lowered_forms (lowered_view t)))
+    lowered_tree_one (Ok t) e = subst (AreLines text) (ap (λ us. all_lowered_forms (lowered_views us)) e ∙ append-nil (lowered_forms (lowered_view t))) are
+    lowered_tree_one (Err x) e = tt
+
+    -- the trees are the two of the lines
+    pub lowered_trees_two : {E : Type 0} (r : Result (LoweredTree × LoweredTree) E) → IfOk r (λ two. xs ≡ two.0 ∷ two.1 ∷ []) →
+        IfOk r (λ two. AreLines text (lowered_forms (lowered_view two.0) ++ lowered_forms (lowered_view two.1)))
+    lowered_trees_two (Ok two) e =
+        subst (AreLines text) (ap (λ us. all_lowered_forms (lowered_views us)) e
+        ∙ ap (λ ds. lowered_forms (lowered_view two.0) ++ ds) (append-nil (lowered_forms (lowered_view two.1)))) are
+    lowered_trees_two (Err x) e = tt
 
 -- ---- written trees
 

@@ -40,3 +40,15 @@ pub(crate) fn only_one<T: Drop>(mut trees: Vec<T>) -> Result<T, LinesError>
         None => Err(LinesError::NotATree),
     }
 }
+
+/// The trees, where there are two and no more.
+pub(crate) fn only_two<T: Drop>(mut trees: Vec<T>) -> Result<(T, T), LinesError>
+    ensures ok { IfOk result (λ two. trees.items ≡ two.0 ∷ two.1 ∷ []) }
+    ensures not { IsErrOf result LinesError.NotATree → length trees.items ≢ 2 }
+{
+    let Some(second) = trees.pop() else {
+        return Err(LinesError::NotATree);
+    };
+    let first = only_one(trees)?;
+    Ok((first, second))
+}

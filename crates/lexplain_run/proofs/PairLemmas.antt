@@ -19,10 +19,12 @@ module _ (fs : Features) (g : GrammarData) (P : ProductionTable) (is_rule : Name
     (fit : CallsFit (written_meaning fs g) (written_name fs g) P is_rule) where
   pub explained_pairs : (u : LoweredTree) (t : WrittenTree) → explain_faults is_rule P u ≡ [] → Reads P u t → IsPairedIn fs g t u
   explained_pairs u t none reads =
-      let (n, is, pairs) = (fit.explained u ((fit.explains u).0 none)).1 in
+      let (n, is, d) = (fit.explains u).0 none in
+      let pairs = (fit.explained u n is d).1 in
       (n, (are n).0 is, subst (λ (s : WrittenTree). Pairs (written_meaning fs g) (written_name fs g) (reference n None) s u) (sym reads) pairs)
 
   pub lowered_pairs : (t : WrittenTree) (u : LoweredTree) → lower_faults is_rule P most_steps t ≡ [] → u ≡ lowered_root P most_steps t → IsPairedIn fs g t u
   lowered_pairs t u none same =
-      let (n, is, pairs) = (fit.lowered t ((fit.lowers t).0 none)).1 in
+      let (n, is, h) = (fit.lowers t).0 none in
+      let pairs = (fit.lowered t n is h).1 in
       (n, (are n).0 is, subst (λ (v : LoweredTree). Pairs (written_meaning fs g) (written_name fs g) (reference n None) t v) (sym same) pairs)

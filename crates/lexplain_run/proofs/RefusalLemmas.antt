@@ -30,7 +30,7 @@ no_first : (fs : List Found) (f : Found) → fs ≡ [] → first_found fs ≡ So
 no_first fs f none first = let e = sym (ap first_found none) ∙ first in absurd (cc e)
 
 -- what trees see of a written grammar has levels
-levels : (fs : Features) (g : GrammarData) → HasLevels (written_meaning fs g)
+pub levels : (fs : Features) (g : GrammarData) → HasLevels (written_meaning fs g)
 levels fs g = meaning_has_levels _ (written_rules fs g)
 
 module _ (s : Settings) (g : GrammarData) (traced : Traced) (lowers : IsLowered s g (grammar_in traced))

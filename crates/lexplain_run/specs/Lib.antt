@@ -1,4 +1,5 @@
 pub mod Words
+pub mod Witnesses
 pub mod Answers
 pub mod Stops
 pub mod Refusals

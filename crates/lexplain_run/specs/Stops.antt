@@ -4,9 +4,11 @@ use Rattle.lalrpop_norm_faults.specs.declared.failure.NormFailure.TheVariants.{R
 use Rattle.lalrpop_norm_explain.specs.declared.errors.ExplainFault.{ExplainFault}
 use Rattle.lalrpop_norm_explain.specs.declared.errors.ExplainFault.TheVariants.{Root, Production, Child, Shape}
 use Rattle.lalrpop_norm_explain.specs.declared.errors.ExplainError.TheVariants.{Refused as faulty_tree, Memory as no_memory}
+use Rattle.lalrpop_norm_ambiguity.specs.declared.errors.AmbiguityError.{AmbiguityError}
+use Rattle.lalrpop_norm_ambiguity.specs.declared.errors.AmbiguityError.TheVariants.{First, Second, Rules, Yields, Same, Memory}
 use Rattle.lnorm_streams.specs.Streams.{fault_line}
 use Rattle.lexplain_run.specs.declared.answer.Stop.{Stop}
-use Rattle.lexplain_run.specs.declared.answer.Stop.TheVariants.{NotAGrammar, NotATree, Failed, Tree}
+use Rattle.lexplain_run.specs.declared.answer.Stop.TheVariants.{NotAGrammar, NotATree, Failed, Tree, Trees}
 
 -- the number of a fault of a tree
 abbrev pub tree_code : ExplainFault → List ℕ
@@ -29,7 +31,24 @@ child_path_text (place ∷ path) = places_text (place ∷ path)
 abbrev pub tree_fault_line : ExplainFault → List ℕ → List ℕ
 tree_fault_line fault path = tree_code fault ++ (codes " " ++ (child_path_text path ++ codes "\n"))
 
--- 1 the grammar or the tree has a fault; 2 one of the two texts is none; 3 an allocation failed
+-- the line for two trees that show no ambiguity, as `first X3 /0/1` or `X6 4`
+abbrev pub unshown_line : AmbiguityError → List ℕ
+unshown_line (First fault path) = codes "first " ++ tree_fault_line fault path.items
+unshown_line (Second fault path) = codes "second " ++ tree_fault_line fault path.items
+unshown_line Rules = codes "X5\n"
+unshown_line (Yields index) = codes "X6 " ++ (decimal index ++ codes "\n")
+unshown_line Same = codes "X7\n"
+unshown_line Memory = codes "lexplain: out of memory\n"
+
+abbrev pub unshown_status : AmbiguityError → ℕ
+unshown_status (First fault path) = 1
+unshown_status (Second fault path) = 1
+unshown_status Rules = 1
+unshown_status (Yields index) = 1
+unshown_status Same = 1
+unshown_status Memory = 3
+
+-- 1 the grammar or the trees have a fault; 2 one of the two texts is none; 3 an allocation failed
 abbrev pub stop_status : Stop → ℕ
 stop_status (Failed (faulty_grammar e)) = 1
 stop_status (Tree (faulty_tree fault path)) = 1
@@ -37,6 +56,7 @@ stop_status NotAGrammar = 2
 stop_status NotATree = 2
 stop_status (Failed no_room) = 3
 stop_status (Tree no_memory) = 3
+stop_status (Trees e) = unshown_status e
 
 abbrev pub stop_line : Stop → List ℕ
 stop_line (Failed (faulty_grammar e)) = fault_line e.fault e.span (string_bytes e.message)
@@ -45,6 +65,7 @@ stop_line NotAGrammar = codes "lexplain: the file is no tree of a grammar\n"
 stop_line NotATree = codes "lexplain: the lines are no tree\n"
 stop_line (Failed no_room) = codes "lexplain: out of memory\n"
 stop_line (Tree no_memory) = codes "lexplain: out of memory\n"
+stop_line (Trees e) = unshown_line e
 
 -- the stop is reported by its exit status and its line; or, if an allocation fails for the line, by exit status 3 and no line
 abbrev pub IsToldBy : Stop → ℕ → List ℕ → Type 0

@@ -4,13 +4,14 @@ use Rattle.lalrpop_norm_session.specs.Sessions.{features_view}
 use Rattle.lalrpop_norm_model.specs.Features.{Features}
 use Rattle.lnorm_run.specs.Settings.{Settings, settings_of}
 use Rattle.lexplain_run.specs.declared.words.Way.{Way}
-use Rattle.lexplain_run.specs.declared.words.Way.TheVariants.{Explain, Lower}
+use Rattle.lexplain_run.specs.declared.words.Way.TheVariants.{Explain, Lower, Ambiguous}
 use Rattle.lexplain_run.specs.declared.words.Asked.{Asked}
 
 -- the argument that names a way
 abbrev pub word_of : Way → List ℕ
 word_of Explain = codes "explain"
 word_of Lower = codes "lower"
+word_of Ambiguous = codes "ambiguous"
 
 -- the settings with these features and this limit, without origins
 abbrev pub settings_with : Features → ℕ → Settings

@@ -11,18 +11,22 @@ ghost use Rattle.lexplain_run.specs.Refusals.{StopsExplaining, StopsLowering, St
 ghost use Rattle.lexplain_run.specs.Words.{settings_asked, settings_with};
 ghost use Rattle.lexplain_run.specs.declared.words.Way.{Way};
 ghost use Rattle.lexplain_run.specs.declared.answer.Stop.TheVariants.{NotATree, Failed};
-ghost use Rattle.lexplain_run.specs.Stops.{IsToldBy, child_path_text, places_text, stop_line, stop_status, tree_code, tree_fault_line};
+ghost use Rattle.lexplain_run.specs.Stops.{IsToldBy, child_path_text, places_text, stop_line, stop_status, tree_code, tree_fault_line, unshown_line, unshown_status};
 
+use crate::ambiguous::ambiguous;
 use crate::words::{Asked, Way};
 use lalrpop_norm::explain::{
     ExplainError, ExplainFault, LoweredTree, WrittenTree, explain, lower_tree,
 };
 use lalrpop_norm::lexer::CheckOnly;
 use lalrpop_norm::normalize::{NormFailure, Session, normalize_traced};
+use lalrpop_norm_ambiguity::AmbiguityError;
 use lalrpop_norm_json::{TreeError, read_tree};
 use lalrpop_norm_tree::grammar::parse_tree::Grammar;
 use lexplain_lines::lines::{lowered_lines, written_lines};
-use lexplain_lines::read::{LinesError, lowered_tree_of_lines, written_tree_of_lines};
+use lexplain_lines::read::{
+    LinesError, lowered_tree_of_lines, two_lowered_trees_of_lines, written_tree_of_lines,
+};
 use lnorm_streams::halt::push_fault_line;
 use std::alloc::{AllocError, Global};
 
@@ -31,12 +35,14 @@ use std::alloc::{AllocError, Global};
 pub enum Stop {
     /// The grammar's text is no tree of a grammar.
     NotAGrammar,
-    /// The lines are no tree.
+    /// The lines are no tree, or no two.
     NotATree,
     /// The grammar has a fault, or an allocation failed.
     Failed(NormFailure),
     /// The tree has a fault.
     Tree(ExplainError),
+    /// The two trees show no ambiguity.
+    Trees(AmbiguityError),
 }
 
 impl From<AllocError> for Stop {
@@ -70,13 +76,24 @@ impl From<ExplainError> for Stop {
     }
 }
 
-/// The lines that are asked for, of the tree that `lines` make, in the grammar whose JSON the first text is.
+impl From<AmbiguityError> for Stop {
+    ghost use Rattle.lexplain_run.specs.declared.answer.Stop.TheVariants.{Trees};
+
+    ghost from_gives = { λ error s. s ≡ Trees error };
+
+    fn from(error: AmbiguityError) -> Stop {
+        Stop::Trees(error)
+    }
+}
+
+/// The lines that are asked for, of the tree or the two trees that `lines` make, in the grammar whose JSON the first text is.
 ///
-/// Errors: `NotAGrammar` where it is that of none; `NotATree`; else those of [`explained`] or [`lowered`]; a failed allocation.
+/// Errors: `NotAGrammar` where it is that of none; `NotATree`; else those of [`explained`], [`lowered`] or [`ambiguous`]; a failed
+/// allocation.
 pub fn answer(alloc: Global, asked: &Asked, grammar: &str, lines: &str) -> Result<String, Stop>
-    // The text is right for the grammar whose form the first text is, and the tree whose lines the second one is.
+    // The text is right for the grammar whose form the first text is, and the tree, or the two, whose lines the second one is.
     ensures ok { IfOk result (λ text. IsTranslationOver asked.now.way (features_view asked.now.session.features) grammar.now lines.now (string_bytes text)) }
-    // That a text is none is said only where it is; else a fault is that of the grammar, or of the tree in it.
+    // That a text is none is said only where it is; else a fault is that of the grammar, or of the trees in it.
     ensures err { IfErr result (StopsOver asked.now.way (settings_asked asked.now) grammar.now lines.now) }
 {
     let grammar = grammar_in(alloc, grammar)?;
@@ -88,6 +105,10 @@ pub fn answer(alloc: Global, asked: &Asked, grammar: &str, lines: &str) -> Resul
         Way::Lower => {
             let tree = read(written_tree_of_lines(alloc, lines))?;
             lowered(alloc, &asked.session, grammar, &tree)
+        }
+        Way::Ambiguous => {
+            let trees = read(two_lowered_trees_of_lines(alloc, lines))?;
+            ambiguous(alloc, &asked.session, grammar, &trees.0, &trees.1)
         }
     }
 }
@@ -225,7 +246,43 @@ fn push_stop(line: &mut String, stop: &Stop) -> Result<u8, AllocError>
             push_fault(line, *fault, path)?;
             Ok(1)
         }
+        Stop::Trees(error) => push_unshown(line, error),
         Stop::Failed(NormFailure::Memory) | Stop::Tree(ExplainError::Memory) => {
+            line.push_str("lexplain: out of memory\n")?;
+            Ok(3)
+        }
+    }
+}
+
+/// The line and the exit status for two trees that show no ambiguity.
+fn push_unshown(line: &mut String, error: &AmbiguityError) -> Result<u8, AllocError>
+    ensures { IfOk result (λ status. (status ≡ unshown_status error.now)
+        × (string_bytes line.new ≡ string_bytes line.old ++ unshown_line error.now)) }
+{
+    match error {
+        AmbiguityError::First { fault, path } => {
+            line.push_str("first ")?;
+            push_fault(line, *fault, path)?;
+            Ok(1)
+        }
+        AmbiguityError::Second { fault, path } => {
+            line.push_str("second ")?;
+            push_fault(line, *fault, path)?;
+            Ok(1)
+        }
+        AmbiguityError::Rules => {
+            line.push_str("X5\n")?;
+            Ok(1)
+        }
+        AmbiguityError::Yields(index) => {
+            write!(line, "X6 {index}\n")?;
+            Ok(1)
+        }
+        AmbiguityError::Same => {
+            line.push_str("X7\n")?;
+            Ok(1)
+        }
+        AmbiguityError::Memory => {
             line.push_str("lexplain: out of memory\n")?;
             Ok(3)
         }

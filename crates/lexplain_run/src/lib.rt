@@ -1,5 +1,6 @@
 //! The engine of the program `lexplain`: trees in lines of JSON, and the corresponding trees of a grammar.
 #![tactic(auto)]
 
+pub mod ambiguous;
 pub mod answer;
 pub mod words;

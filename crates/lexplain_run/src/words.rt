@@ -9,13 +9,15 @@ use lalrpop_norm::normalize::Session;
 use lnorm_run::words::{WordsError, asked_by};
 use std::alloc::Global;
 
-/// Which way a tree goes.
+/// Which way trees go.
 #[derive(Clone, Copy, Debug, PartialEq, Eq)]
 pub enum Way {
     /// From a derivation tree of the lowered grammar to the written tree.
     Explain,
     /// From a written tree to its derivation tree.
     Lower,
+    /// From two derivation trees to two written ones that show an ambiguity.
+    Ambiguous,
 }
 
 /// What the arguments ask for.
@@ -27,8 +29,8 @@ pub struct Asked {
     pub session: Session<CheckOnly>,
 }
 
-/// The name of the grammar's file, and what is asked for: the arguments are `explain` or `lower`, the name, and options of
-/// `lnorm` but `--origins`. Errors: `Usage` where they are no such arguments, and only there; `Memory`.
+/// The name of the grammar's file, and what is asked for: the arguments are `explain`, `lower` or `ambiguous`, the name, and
+/// options of `lnorm` but `--origins`. Errors: `Usage` where they are no such arguments, and only there; `Memory`.
 pub fn asked_for(alloc: Global, words: &[String]) -> Result<(&str, Asked), WordsError>
     ensures ok { IfOk result (λ r. AsksForWay (map string_bytes words.now) r.1.way r.0.now (settings_asked r.1)) }
     ensures usage { IsErrOf result Usage → AsksForNoWay (map string_bytes words.now) }
@@ -73,6 +75,7 @@ fn way_of(word: &str) -> Option<Way>
     match word {
         "explain" => Some(Way::Explain),
         "lower" => Some(Way::Lower),
+        "ambiguous" => Some(Way::Ambiguous),
         _ => None,
     }
 }

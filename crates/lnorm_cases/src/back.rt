@@ -2,21 +2,26 @@
 use crate::call::Back;
 use crate::outcome::{push_place, read_bytes};
 use crate::shown::push_apart;
-use lalrpop_norm::explain::{ExplainError, LoweredTree, Traced, explain, lower_tree};
+use lalrpop_norm::explain::{
+    ExplainError, LoweredTree, Traced, WrittenTree, explain, explain_at, lower_tree,
+};
 use lalrpop_norm::normalize::{NormFailure, Session, normalize_traced};
 use lalrpop_norm_json::TreeError;
 use lalrpop_norm_lexer::lexer::CheckOnly;
 use lalrpop_norm_repr::grammar::repr::{NonterminalData, NonterminalString, Production};
 use lalrpop_norm_tree::grammar::parse_tree::Grammar;
 use lexplain_lines::lines::{lowered_lines, written_lines};
-use lexplain_lines::read::{LinesError, lowered_tree_of_lines, written_tree_of_lines};
-use lexplain_run::answer::{Stop, push_fault};
+use lexplain_lines::read::{
+    LinesError, lowered_tree_of_lines, two_lowered_trees_of_lines, written_tree_of_lines,
+};
+use lexplain_run::ambiguous::ambiguous;
+use lexplain_run::answer::{Stop, push_fault, told};
 use lnorm_run::lines::push_origin;
 use lnorm_run::words::{WordsError, asked_by};
 use lnorm_texts::text::Text;
 use std::alloc::Global;
 
-/// What a call answers for the tree that lines make, in the grammar that the bytes are.
+/// What a call answers for the tree, or the two trees, that lines make, in the grammar that the bytes are.
 pub(crate) fn push_back(
     alloc: Global,
     text: &mut Text,
@@ -28,7 +33,7 @@ pub(crate) fn push_back(
     match asked_by(alloc, words) {
         Ok(asked) => match answered(alloc, back, &asked.session, bytes, lines) {
             Ok(answer) => text.put(answer.as_str()),
-            Err(stop) => push_stop(alloc, text, &stop),
+            Err(stop) => push_stop(alloc, text, stop),
         },
         Err(WordsError::Usage) => text.put("usage\n"),
         Err(WordsError::Memory) => text.put("memory\n"),
@@ -43,20 +48,35 @@ fn answered(
     lines: &[u8],
 ) -> Result<String, Stop> {
     let grammar = grammar_of(alloc, bytes)?;
-    match normalize_traced(alloc, session, grammar) {
-        Ok(traced) => match back {
-            Back::Explain => explained(alloc, &traced, lines),
-            Back::LowerTree => lowered(alloc, &traced, lines),
-            Back::ThereAndBack => there_and_back(alloc, &traced, lines),
-        },
-        Err(failure) => Err(Stop::Failed(failure)),
+    if let Back::Ambiguous = back {
+        let (first, second) = read(two_lowered_trees_of_lines(alloc, text_of(lines)?))?;
+        return ambiguous(alloc, session, grammar, &first, &second);
+    }
+    let traced = normalize_traced(alloc, session, grammar)?;
+    match back {
+        Back::Explain => explained(alloc, &traced, lines),
+        Back::ExplainAt => explained_anywhere(alloc, &traced, lines),
+        Back::LowerTree => lowered(alloc, &traced, lines),
+        Back::ThereAndBack | Back::Ambiguous => there_and_back(alloc, &traced, lines),
     }
 }
 
 fn explained(alloc: Global, traced: &Traced, lines: &[u8]) -> Result<String, Stop> {
     let tree = read(lowered_tree_of_lines(alloc, text_of(lines)?))?;
-    match explain(alloc, traced, &tree) {
-        Ok(written) => Ok(written_lines(alloc, &written)?),
+    written_lines_of(alloc, explain(alloc, traced, &tree))
+}
+
+fn explained_anywhere(alloc: Global, traced: &Traced, lines: &[u8]) -> Result<String, Stop> {
+    let tree = read(lowered_tree_of_lines(alloc, text_of(lines)?))?;
+    written_lines_of(alloc, explain_at(alloc, traced, &tree))
+}
+
+fn written_lines_of(
+    alloc: Global,
+    written: Result<WrittenTree, ExplainError>,
+) -> Result<String, Stop> {
+    match written {
+        Ok(tree) => Ok(written_lines(alloc, &tree)?),
         Err(error) => Err(Stop::Tree(error)),
     }
 }
@@ -104,15 +124,19 @@ fn read<T: Drop>(tree: Result<T, LinesError>) -> Result<T, Stop> {
     }
 }
 
-fn push_stop(alloc: Global, text: &mut Text, stop: &Stop) {
+fn push_stop(alloc: Global, text: &mut Text, stop: Stop) {
     match stop {
         Stop::NotAGrammar => text.put("not a tree\n"),
         Stop::NotATree => text.put("no tree beside it\n"),
-        Stop::Failed(failure) => push_place(text, failure),
+        Stop::Failed(failure) => push_place(text, &failure),
         Stop::Tree(ExplainError::Refused { fault, path }) => push_apart(alloc, text, |text| {
-            push_fault(text, *fault, path)
+            push_fault(text, fault, &path)
         }),
         Stop::Tree(ExplainError::Memory) => text.put("memory\n"),
+        Stop::Trees(error) => {
+            let (_, line) = told(alloc, Stop::Trees(error));
+            text.put(line.as_str());
+        }
     }
 }
 

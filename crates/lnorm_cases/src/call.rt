@@ -37,10 +37,14 @@ pub(crate) enum Call {
 pub(crate) enum Back {
     /// `explain`.
     Explain,
+    /// `explain_at`.
+    ExplainAt,
     /// `lower_tree`.
     LowerTree,
     /// `explain`, and `lower_tree` of what that answers.
     ThereAndBack,
+    /// `ambiguous`, of two trees.
+    Ambiguous,
 }
 
 /// A pass that answers a tree, or no fault.
@@ -127,8 +131,10 @@ pub(crate) fn call_of(alloc: Global, name: &str) -> Result<Option<Call>, AllocEr
         "values" => Ok(Some(Call::Values)),
         "copies" => Ok(Some(Call::Copies)),
         "explain" => Ok(Some(Call::Back(Back::Explain))),
+        "explain_at" => Ok(Some(Call::Back(Back::ExplainAt))),
         "lower_tree" => Ok(Some(Call::Back(Back::LowerTree))),
         "there_and_back" => Ok(Some(Call::Back(Back::ThereAndBack))),
+        "ambiguous" => Ok(Some(Call::Back(Back::Ambiguous))),
         "read_twice" => Ok(Some(Call::ReadTwice)),
         "beginnings" => Ok(Some(Call::Beginnings)),
         _ => passes_of(alloc, name),

@@ -49,7 +49,7 @@ stream_line = codes "lnorm: input or output failed\n"
 
 -- the same of `lexplain`
 unfoldable pub lexplain_usage_line : List ℕ
-lexplain_usage_line = codes "lexplain: usage: lexplain explain|lower GRAMMAR [--limit N] [--feature F]..., or lexplain grammar GRAMMAR [--limit N] [--feature F]... [--origins]\n"
+lexplain_usage_line = codes "lexplain: usage: lexplain explain|lower|ambiguous GRAMMAR [--limit N] [--feature F]..., or lexplain grammar GRAMMAR [--limit N] [--feature F]... [--origins]\n"
 
 unfoldable pub lexplain_no_tree_line : List ℕ
 lexplain_no_tree_line = codes "lexplain: the file is no tree of a grammar\n"

@@ -151,7 +151,7 @@ fn usage(program: Program) -> &'static str
     match program {
         Program::Lnorm => "lnorm: usage: lnorm [--limit N] [--feature F]... [--origins]\n",
         Program::Lexplain =>
-            "lexplain: usage: lexplain explain|lower GRAMMAR [--limit N] [--feature F]..., or lexplain grammar GRAMMAR [--limit N] [--feature F]... [--origins]\n",
+            "lexplain: usage: lexplain explain|lower|ambiguous GRAMMAR [--limit N] [--feature F]..., or lexplain grammar GRAMMAR [--limit N] [--feature F]... [--origins]\n",
     }
 }
 

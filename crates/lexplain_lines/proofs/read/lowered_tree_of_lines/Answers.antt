@@ -1,47 +1,13 @@
-use Rattle.std.proofs.Common.{ap, ◌∙◌, rules}
-use Rattle.std.specs.Str.Iter.{lines_rest}
-use Rattle.lalrpop_norm_explain.specs.Trees.{lowered_views}
-use Rattle.lexplain_lines.specs.LineForms.{all_lowered_forms}
-use Rattle.lexplain_lines.specs.Lines.{lowered_line_form}
-use Rattle.lexplain_lines.proofs.Refusals.{lowered_line_refused, lowered_trees_lacking, lowered_trees_not_one, lowered_tree_one}
-use Rattle.lexplain_lines.proofs.SoFar.{none_so_far, one_more, all_so_far}
+use Rattle.std.proofs.Common.{rules}
+use Rattle.lexplain_lines.proofs.Refusals.{lowered_tree_one, lowered_trees_not_one, no_lowered_tree}
 use Rattle.lexplain_lines.proofs.read.lowered_tree_of_lines.Goals as goal
 
-pub loop-line-init : goal.loop-line-init
-loop-line-init c = (
-  tt,
-  tt,
-  none_so_far c.args.lines.now c.into_iter-line-iterator.result (all_lowered_forms (lowered_views c.new-trees.result.items))
-      (ap lines_rest c.into_iter-line-iterator.ensures.into_iter_gives ∙ c.lines-line-items.ensures.rest)
-      (ap (λ us. all_lowered_forms (lowered_views us)) c.new-trees.ensures.items),
-)
-
-pub loop-line-preserved : goal.loop-line-preserved
-loop-line-preserved c = (
-  tt,
-  tt,
-  one_more c.args.lines.now c.loop-line.line-iterator c.next.new.self
-      (all_lowered_forms (lowered_views c.loop-line.trees.items)) (all_lowered_forms (lowered_views c.take_lowered.new.trees.items))
-      c.in-Some.line (lowered_line_form c.in_ok-line.line) c.loop-line.invariant.2 c.in-Some.ensures.steps c.in_ok-line.ensures.ok c.in_ok-take_lowered.ensures.ok,
-)
-
-pub returns-in_err-line-clause-not : goal.returns-in_err-line-clause-not
-returns-in_err-line-clause-not c = λ refused u whole.
-    lowered_line_refused c.args.lines.now c.loop-line.line-iterator c.next.new.self c.loop-line.trees.items c.in-Some.line c.loop-line.invariant.2 c.in-Some.ensures.steps u whole
-    (c.in_err-line.ensures.not (search rules))
-
-pub returns-in_err-take_lowered-clause-not : goal.returns-in_err-take_lowered-clause-not
-returns-in_err-take_lowered-clause-not c = λ refused u whole.
-    lowered_trees_lacking c.args.lines.now c.loop-line.line-iterator c.next.new.self c.loop-line.trees.items c.in-Some.line c.loop-line.invariant.2 c.in-Some.ensures.steps u whole
-    c.in_ok-line.line c.in_ok-line.ensures.ok (c.in_err-take_lowered.ensures.not (search rules))
+pub returns-in_err-trees-clause-not : goal.returns-in_err-trees-clause-not
+returns-in_err-trees-clause-not c = λ refused. no_lowered_tree c.args.lines.now (c.in_err-trees.ensures.not (search rules))
 
 pub returns-clause-ok : goal.returns-clause-ok
-returns-clause-ok c = lowered_tree_one c.args.lines.now c.loop-line.trees.items c.only_one.result
-    (all_so_far c.args.lines.now c.loop-line.line-iterator c.next.new.self (all_lowered_forms (lowered_views c.loop-line.trees.items)) c.loop-line.invariant.2 c.in-None.ensures.steps)
-    c.only_one.ensures.ok
+returns-clause-ok c = lowered_tree_one c.args.lines.now c.in_ok-trees.trees.items c.in_ok-trees.ensures.ok c.only_one.result c.only_one.ensures.ok
 
 pub returns-clause-not : goal.returns-clause-not
 returns-clause-not c = λ refused u whole.
-    lowered_trees_not_one c.args.lines.now c.loop-line.trees.items u
-    (all_so_far c.args.lines.now c.loop-line.line-iterator c.next.new.self (all_lowered_forms (lowered_views c.loop-line.trees.items)) c.loop-line.invariant.2 c.in-None.ensures.steps)
-    whole (c.only_one.ensures.not refused)
+    lowered_trees_not_one c.args.lines.now c.in_ok-trees.trees.items c.in_ok-trees.ensures.ok u whole (c.only_one.ensures.not refused)

@@ -1,7 +1,7 @@
 use Rattle.lalrpop_norm_explain.specs.Trees.{lowered_views}
 use Rattle.lexplain_lines.specs.LineForms.{all_lowered_forms}
 use Rattle.lexplain_lines.proofs.SoFar.{AreSoFar}
-use Rattle.lexplain_lines.proofs.read.lowered_tree_of_lines.Given as goal
+use Rattle.lexplain_lines.proofs.read.lowered_trees.Given as goal
 
 -- the trees so far are those of the lines that were read
 abbrev pub invariant-loop-line : goal.invariant-loop-line

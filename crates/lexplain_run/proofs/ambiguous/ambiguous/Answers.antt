@@ -1,0 +1,33 @@
+use Rattle.std.proofs.lemmas.Result.{err_from_is_err_and}
+use Rattle.lalrpop_norm_tree.specs.Items.{grammar_view}
+use Rattle.lalrpop_norm_session.specs.Sessions.{features_view}
+use Rattle.lalrpop_norm_explain.specs.TracedGrammars.{grammar_in, grammar_of, is_root}
+use Rattle.lalrpop_norm_explain.specs.Trees.{lowered_view}
+use Rattle.lnorm_run.proofs.FaultlessLemmas.{no_fault_stands}
+use Rattle.lexplain_run.specs.Words.{settings_with}
+use Rattle.lexplain_run.proofs.AmbiguousLemmas.{readings_shown, showing_stops}
+use Rattle.lexplain_run.proofs.ambiguous.ambiguous.Goals as goal
+
+pub returns-clause-ok : goal.returns-clause-ok
+returns-clause-ok c =
+    let traced = c.in_ok-traced.traced in
+    readings_shown (features_view c.args.session.now.features) (grammar_view c.args.grammar) (grammar_of traced) (is_root traced)
+    c.in_ok-traced.ensures.roots c.in_ok-traced.ensures.calls (lowered_view c.args.first.now) (lowered_view c.args.second.now)
+    c.in_ok-readings.readings c.in_ok-readings.ensures _ c.in_ok-readings_lines.ensures
+
+pub returns-in_err-traced-clause-err : goal.returns-in_err-traced-clause-err
+returns-in_err-traced-clause-err c =
+    let p = err_from_is_err_and c.from_residual.result c.from_residual.ensures.1 in
+    rw (p.1, p.2) c.in_err-traced.ensures.refuses
+
+pub returns-in_err-readings-clause-err : goal.returns-in_err-readings-clause-err
+returns-in_err-readings-clause-err c =
+    let p = err_from_is_err_and c.from_residual-in_err-readings.result c.from_residual-in_err-readings.ensures.1 in
+    let s = settings_with (features_view c.args.session.now.features) c.args.session.now.macro_recursion_limit in
+    let g = grammar_view c.args.grammar in
+    let traced = c.in_ok-traced.traced in
+    let told = c.in_ok-traced.ensures in
+    rw (p.1, p.2) (showing_stops s g traced
+    (record { faultless = no_fault_stands s g (grammar_in traced) told.refuses told.faithful; faithful = told.faithful; closed = told.closed })
+    told.origins told.roots told.calls
+    (lowered_view c.args.first.now) (lowered_view c.args.second.now) c.in_err-readings.field-0.0 c.in_err-readings.ensures)
