@@ -29,7 +29,8 @@ extern "C" {
 enum {
     /* The output is the text that was asked for; there is no line of faults. */
     LNORM_DONE = 0,
-    /* The grammar, or the tree that is to be explained, has a fault. The line of faults has its error code, and its span or path. */
+    /* The grammar, or a derivation tree, has a fault, or two trees show no ambiguity. The line of faults has the error code, and its span
+     * or path. */
     LNORM_FAULT = 1,
     /* The arguments are no options, or the input is no tree; the line of faults says which. */
     LNORM_REFUSED = 2,
@@ -91,7 +92,24 @@ struct lnorm_answer lnorm_explain(
     char *output, size_t output_room,
     char *faults, size_t faults_room);
 
-/* The version of the forms of trees, lines and lowered grammars in JSON (docs/use/FORMATS.md): 2. In version 1 there was no lnorm_whole. */
+/* Takes two derivation trees of the lowered grammar back to two readings in the grammar as it was written, as `lexplain ambiguous` does:
+ * different trees of one rule with one sequence of terminals, so the grammar is ambiguous.
+ *
+ * words, grammar   those of lnorm_explain.
+ * lines            the lines of two derivation trees, before inlining, one behind the other.
+ * output           the lines of the first tree of the grammar as it was written, those of the second, and a line `{"Differ":[0,2]}`: the
+ *                  child indexes that lead from both roots to the smallest trees that hold all that differs.
+ * faults           a line that says why there are none: as for lnorm_explain, with the tree in front, as "first X3 /0/1\n"; or that the
+ *                  trees show no ambiguity: "X5\n", "X6 4\n" or "X7\n" (docs/use/FAULTS.md). */
+struct lnorm_answer lnorm_ambiguous(
+    const char *words, size_t words_size,
+    const char *grammar, size_t grammar_size,
+    const char *lines, size_t lines_size,
+    char *output, size_t output_room,
+    char *faults, size_t faults_room);
+
+/* The version of the forms of trees, lines and lowered grammars in JSON (docs/use/FORMATS.md): 2. In version 1 there was no lnorm_whole and
+ * no lnorm_ambiguous. */
 uint32_t lnorm_form_version(void);
 
 /* The toolchain that the library was proved and built with. Its line, without a line feed, is put into the buffer, as much as there is room

@@ -1,5 +1,5 @@
 -- What a call asks for, and what its answers say of the bytes that are its arguments.
-use Rattle.std.specs.Prelude.{◌≡◌, ◌≤◌, ℕ, List, Some, length, take}
+use Rattle.std.specs.Prelude.{◌≡◌, ◌≤◌, ◌++◌, ℕ, List, Some, length, take}
 use Rattle.lalrpop_norm_tree_names.specs.declared.names.Span.{Span}
 use Rattle.lalrpop_norm_faults.specs.declared.kind.FaultKind.{FaultKind}
 use Rattle.lalrpop_norm_tree.specs.Items.{GrammarData}
@@ -10,7 +10,7 @@ use Rattle.lnorm_run.specs.Answers.{IsTree, IsFormOf, IsAnswerIn, IsFirstFault}
 use Rattle.lnorm_run.specs.declared.printing.Form.{Form}
 use Rattle.lnorm_run.specs.declared.printing.Form.TheVariants.{Lines, Json}
 use Rattle.lexplain_lines.specs.LineForms.{AreLines, lowered_forms}
-use Rattle.lexplain_run.specs.Answers.{ExplainsTree}
+use Rattle.lexplain_run.specs.Answers.{ExplainsTree, ShowsAmbiguity}
 use Rattle.lnorm_c.specs.Words.{AreWords}
 
 -- the arguments in the text ask for these settings
@@ -67,3 +67,15 @@ pub record IsExplainedFor (words grammar lines text : List ℕ) : Type 0 where
   pub derivation : LoweredTree
   pub are : AreLines lines (lowered_forms derivation)
   pub explained : ExplainsTree features tree derivation text
+
+-- The text is the lines of two written trees that show the grammar ambiguous, whose form the input is, and the line of the path to
+-- where they differ. They correspond to the two derivation trees whose lines these are, one behind the other.
+pub record IsShownAmbiguousFor (words grammar lines text : List ℕ) : Type 0 where
+  pub features : Features
+  pub asked : AsksForFeatures words features
+  pub tree : GrammarData
+  pub form : IsFormOf tree grammar
+  pub first : LoweredTree
+  pub second : LoweredTree
+  pub are : AreLines lines (lowered_forms first ++ lowered_forms second)
+  pub shown : ShowsAmbiguity features tree first second text

@@ -2,7 +2,7 @@
 use Rattle.std.specs.Prelude.{ℕ, List, codes}
 
 -- The version of the forms. It grows with each change by which a text that was a tree is none any more, or is another tree, or by
--- which the same grammar has other lines.
+-- which the same grammar has other lines, and with a form that is added: 2 has whole lowered grammars in JSON, and two readings.
 abbrev pub form_version : ℕ
 form_version = 2
 

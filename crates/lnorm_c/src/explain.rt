@@ -1,6 +1,6 @@
 //! The engine of the program `lexplain`, over bytes.
 ghost use Rattle.std.specs.Prelude.{◌≡◌, ◌≤◌, ◌<◌, ℕ, List, [], Some, IfOk, string_bytes};
-ghost use Rattle.lalrpop_norm_tree.specs.Items.{GrammarData, grammar_view};
+ghost use Rattle.lalrpop_norm_tree.specs.Items.{GrammarData};
 ghost use Rattle.lalrpop_norm_theory.specs.LoweredTrees.{LoweredTree as DerivationTree};
 ghost use Rattle.lalrpop_norm_session.specs.Sessions.{features_view};
 ghost use Rattle.lalrpop_norm_explain.specs.Trees.{lowered_view};
@@ -9,18 +9,15 @@ ghost use Rattle.lexplain_lines.specs.LineForms.{AreLines, lowered_forms};
 ghost use Rattle.lexplain_run.specs.Answers.{ExplainsTree};
 ghost use Rattle.lnorm_streams.specs.Streams.{memory_line};
 ghost use Rattle.lnorm_buffers.specs.Buffers.{Takes};
-ghost use Rattle.lnorm_c.specs.Calls.{AsksForFeatures, IsExplainedFor};
+ghost use Rattle.lnorm_c.specs.Calls.{IsExplainedFor};
 
-use crate::words::words_in;
+use crate::trees::{grammar_in, refused, session_in, stopped};
 use lalrpop_norm::explain::LoweredTree;
 use lalrpop_norm::lexer::CheckOnly;
 use lalrpop_norm::normalize::{NormFailure, Session};
-use lalrpop_norm_json::{TreeError, read_tree};
-use lalrpop_norm_tree::grammar::parse_tree::Grammar;
 use lexplain_lines::read::{LinesError, lowered_tree_of_lines};
-use lexplain_run::answer::{Stop, explained, told as told_stop};
-use lnorm_buffers::answer::{Ended, LnormAnswer, told, without_memory};
-use lnorm_run::words::{WordsError, asked_by};
+use lexplain_run::answer::{Stop, explained};
+use lnorm_buffers::answer::{Ended, LnormAnswer, told};
 use std::alloc::Global;
 
 /// What `lexplain explain` does, over bytes: from a derivation tree of a lowered grammar to the tree of the grammar as it was
@@ -70,21 +67,7 @@ fn explain_ended(alloc: Global, words: &[u8], grammar: &[u8], lines: &[u8]) -> E
             },
             Err(stop) => stopped(alloc, stop),
         },
-        Err(WordsError::Usage) => refused_words(alloc),
-        Err(WordsError::Memory) => without_memory(alloc),
-    }
-}
-
-/// The session that the arguments in a text ask for. Errors: `Usage` where they ask for none, or for origins; `Memory`.
-fn session_in(alloc: Global, words: &[u8]) -> Result<Session<CheckOnly>, WordsError>
-    ensures { IfOk result (λ session. AsksForFeatures words.now (features_view session.features)) }
-{
-    let words = words_in(alloc, words)?;
-    let asked = asked_by(alloc, &words)?;
-    if asked.origins {
-        Err(WordsError::Usage)
-    } else {
-        Ok(asked.session)
+        Err(error) => refused(alloc, error),
     }
 }
 
@@ -104,20 +87,6 @@ fn explained_lines(
     explained(alloc, session, grammar, &tree)
 }
 
-/// The grammar whose JSON form the bytes are.
-fn grammar_in(alloc: Global, bytes: &[u8]) -> Result<Grammar, Stop>
-    ensures { IfOk result (λ g. IsFormOf (grammar_view g) bytes.now) }
-{
-    let Ok(text) = str::from_utf8(bytes) else {
-        return Err(Stop::NotAGrammar);
-    };
-    match read_tree(alloc, text) {
-        Ok(grammar) => Ok(grammar),
-        Err(TreeError::NotATree) => Err(Stop::NotAGrammar),
-        Err(TreeError::Memory) => Err(Stop::Failed(NormFailure::Memory)),
-    }
-}
-
 /// The derivation tree that the lines make.
 fn derivation_in(alloc: Global, bytes: &[u8]) -> Result<LoweredTree, Stop>
     ensures { IfOk result (λ t. AreLines bytes.now (lowered_forms (lowered_view t))) }
@@ -131,34 +100,3 @@ fn derivation_in(alloc: Global, bytes: &[u8]) -> Result<LoweredTree, Stop>
         Err(LinesError::Memory) => Err(Stop::Failed(NormFailure::Memory)),
     }
 }
-
-/// What a stop comes to.
-fn stopped(alloc: Global, stop: Stop) -> Ended
-    ensures status { 0 < result.status }
-    ensures quiet { result.output.items ≡ [] }
-{
-    let (status, line) = told_stop(alloc, stop);
-    Ended {
-        status: if status == 0 { 3 } else { status },
-        output: Vec::new(alloc),
-        faults: line.into_bytes(),
-    }
-}
-
-/// What a call comes to whose arguments ask for nothing.
-fn refused_words(alloc: Global) -> Ended
-    ensures status { 0 < result.status }
-    ensures quiet { result.output.items ≡ [] }
-{
-    let mut faults = Vec::new(alloc);
-    match faults.extend_from_slice(USAGE.as_bytes()) {
-        Ok(()) => Ended {
-            status: 2,
-            output: Vec::new(alloc),
-            faults,
-        },
-        Err(_) => without_memory(alloc),
-    }
-}
-
-const USAGE: &str = "lexplain: words: [--limit N] [--feature F]...\n";

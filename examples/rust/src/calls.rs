@@ -43,6 +43,18 @@ extern "C" {
         faults: *mut u8,
         faults_room: usize,
     ) -> Answer;
+    fn lnorm_ambiguous(
+        words: *const u8,
+        words_size: usize,
+        grammar: *const u8,
+        grammar_size: usize,
+        lines: *const u8,
+        lines_size: usize,
+        output: *mut u8,
+        output_room: usize,
+        faults: *mut u8,
+        faults_room: usize,
+    ) -> Answer;
     fn lnorm_form_version() -> u32;
     fn lnorm_toolchain(line: *mut u8, room: usize) -> usize;
 }
@@ -114,6 +126,27 @@ pub(crate) fn explain(words: &[u8], grammar: &[u8], lines: &[u8]) -> (Status, Ve
         // SAFETY: as above.
         unsafe {
             lnorm_explain(
+                words.as_ptr(),
+                words.len(),
+                grammar.as_ptr(),
+                grammar.len(),
+                lines.as_ptr(),
+                lines.len(),
+                output.as_mut_ptr(),
+                output.len(),
+                faults.as_mut_ptr(),
+                faults.len(),
+            )
+        }
+    })
+}
+
+/// Goes back from two derivation trees: the status, the output and the line of faults.
+pub(crate) fn ambiguous(words: &[u8], grammar: &[u8], lines: &[u8]) -> (Status, Vec<u8>, Vec<u8>) {
+    with_buffers(lines.len() + 1024, |output, faults| {
+        // SAFETY: as above.
+        unsafe {
+            lnorm_ambiguous(
                 words.as_ptr(),
                 words.len(),
                 grammar.as_ptr(),

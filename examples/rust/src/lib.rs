@@ -7,6 +7,7 @@
 //! | [`normalize`] | its productions, types and start symbols, taken from the printed lines |
 //! | [`lowered_text`] | these lines |
 //! | [`explain`] | back from a derivation tree of the lowered grammar to the grammar as it was written |
+//! | [`ambiguous`] | from two derivation trees to two readings in the grammar as it was written |
 //!
 //! `docs/use/FORMATS.md` has the forms, and what the lines do not show, as which nonterminals are `inline`.
 //!
@@ -19,6 +20,7 @@ mod lines;
 mod names;
 #[cfg(feature = "serde")]
 mod read;
+mod readings;
 #[cfg(feature = "serde")]
 pub mod repr;
 
@@ -27,6 +29,7 @@ pub use fault::Fault;
 pub use lines::{Lowered, Production};
 #[cfg(feature = "serde")]
 pub use read::{grammar, grammar_with_origins};
+pub use readings::Readings;
 
 use calls::Status;
 use names::Names;
@@ -78,6 +81,19 @@ pub fn whole_json(tree: &str, limit: u16, features: &[&str], with_origins: bool)
 pub fn explain(tree: &str, lines: &str, limit: u16, features: &[&str]) -> Result<String, Fault> {
     let words = words_of(limit, features)?;
     answered(calls::explain(&words, tree.as_bytes(), lines.as_bytes()))
+}
+
+/// Two different readings of one sequence of terminals in the grammar as it was written: it is ambiguous at the rule of both roots. `lines`
+/// are those of two derivation trees of the lowered grammar, before inlining, one behind the other. The other arguments are those of
+/// [`normalize`].
+///
+/// # Errors
+///
+/// The first fault of the grammar, of the first tree or of the second; the trees are of two rules (X5), their terminals differ (X6, with the
+/// first index), or their written trees are the same (X7); or those of [`lowered_text`].
+pub fn ambiguous(tree: &str, lines: &str, limit: u16, features: &[&str]) -> Result<Readings, Fault> {
+    let words = words_of(limit, features)?;
+    Readings::from_lines(&answered(calls::ambiguous(&words, tree.as_bytes(), lines.as_bytes()))?)
 }
 
 /// The arguments of a call, each ended by a zero byte. A feature with a zero byte in it is none.

@@ -1,6 +1,6 @@
 use Rattle.std.proofs.Common.{rules, refl, map, string_bytes}
 use Rattle.lnorm_run.specs.Settings.{settings_view}
-use Rattle.lnorm_c.proofs.explain.session_in.Goals as goal
+use Rattle.lnorm_c.proofs.trees.session_in.Goals as goal
 
 pub returns : goal.returns
 returns c = (
