@@ -99,7 +99,7 @@ def private_words(_, document, __):
 # ---- length
 
 MOST_WORDS = {"README.md": 1100}
-MOST_IN_ALL = 52000
+MOST_IN_ALL = 54000
 
 
 def lengths(documents):

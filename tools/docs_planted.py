@@ -20,7 +20,7 @@ PLANTED = (
     ("the count of further mutants", "README.md", r"(\d+) further mutants", more),
     ("the count of test cases", "README.md", r"(\d[\d,]+) test cases", more),
     ("minutes of a build", "README.md", r"below: \d+ crates, (\d+) minutes", more),
-    ("a production of the answer", "README.md", r"Sum2 = Sum1 => ActionFn\((\d+)\)", more),
+    ("a production of the answer", "README.md", r"Sum = Sum2 => ActionFn\((\d+)\)", more),
     ("a contract clause", "README.md", r"`normalize\.(\w+)`", without_last_letter),
     ("a word of a rule's file", "docs/language/RULES.md", r": (\w{6,})`", without_last_letter),
     ("the name of a fault", "docs/use/FAULTS.md", r"`(NamedInTimes)`", without_last_letter),

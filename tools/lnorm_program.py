@@ -16,13 +16,14 @@ import time
 ROOT = os.path.dirname(os.path.dirname(os.path.realpath(__file__)))
 INPUTS, SECONDS_BETWEEN = 3, 0.002
 NO_TREE = 2
-HOW_TO_BUILD = """\
-tools/lnorm: the program is not built, crates/%s/out/%s is not there. `rt ci` leaves it there; to build it alone, once, which
+# The tool whose lines these are.
+TOOL = "tools/" + os.path.basename(os.path.realpath(sys.argv[0]))
+HOW_TO_BUILD = TOOL + """: the program is not built, crates/%s/out/%s is not there. `rt ci` leaves it there; to build it alone, once, which
 proves all that it stands on and takes half an hour to an hour and a half:
     cd crates/%s && %s"""
-COMPILES = "tools/lnorm: compiling the program without proof; this takes some minutes, once"
-IS_OLD = "tools/lnorm: note: the code of the program has changed since it was built; in crates/%s `rt run` builds it anew"
-IS_UNPROVED = "tools/lnorm: note: made by a program that was compiled without proof: %s"
+COMPILES = TOOL + ": compiling the program without proof; this takes some minutes, once"
+IS_OLD = TOOL + ": note: the code of the program has changed since it was built; in crates/%s `rt run` builds it anew"
+IS_UNPROVED = TOOL + ": note: made by a program that was compiled without proof: %s"
 
 
 class Program:

@@ -13,7 +13,7 @@ from package_crates import ROOT
 from versions import version_line
 
 # The tools that users call. What they import is found.
-TOOLS = ("lnorm", "tree", "schema")
+TOOLS = ("lnorm", "tree", "schema", "conflicts", "lexplain")
 FOLDERS = ("docs", "examples")
 FILES = ("README.md", "CHANGELOG.md", "LICENSE", "include/lnorm.h")
 PROGRAM, PLAIN = 0o755, 0o644

@@ -105,7 +105,7 @@ class Trial:
 
     def tools(self):
         sums = os.path.join(self.example, "sums")
-        for tool in ("lower", "tree", "schema"):
+        for tool in ("lower", "tree", "schema", "conflicts", "explain"):
             ran = self.run(["lnorm-" + tool, "--version"])
             self.tell("lnorm-%s --version" % tool, ran.returncode == 0 and b"LALRPOP " in ran.stdout and b", forms " in ran.stdout, ran)
         self.answers("lnorm-lower sums.lalrpop", ["lnorm-lower", sums + ".lalrpop"], read(sums + ".expected"))
