@@ -134,8 +134,12 @@ fn push_stop(alloc: Global, text: &mut Text, stop: Stop) {
         }),
         Stop::Tree(ExplainError::Memory) => text.put("memory\n"),
         Stop::Trees(error) => {
-            let (_, line) = told(alloc, Stop::Trees(error));
-            text.put(line.as_str());
+            let (status, line) = told(alloc, Stop::Trees(error));
+            text.put(if status == 3 {
+                "memory\n"
+            } else {
+                line.as_str()
+            });
         }
     }
 }
