@@ -1,11 +1,13 @@
 //! Why there is no answer.
-ghost use Rattle.std.specs.Prelude.{◌≡◌, List};
+ghost use Rattle.std.specs.Prelude.{◌≡◌, List, Some};
+ghost use Rattle.lalrpop_norm_explain.specs.FaultCodes.{tree_fault_code};
 ghost use Rattle.lalrpop_norm_explain.specs.TreeFaults.{Found, IsFoundUp, raised, Turned};
 
 use shared_text::NoMemory;
 use std::alloc::{AllocError, AllocFailed};
+use std::fmt;
 
-/// What is wrong with a tree.
+/// What is wrong with a tree. Each kind has an error code, which `Display` writes.
 #[derive(Clone, Copy, Debug, PartialEq, Eq)]
 pub enum ExplainFault {
     /// X1: the root is no node, or its name is not that of an enabled written rule without arguments; of `explain_at`, its
@@ -19,6 +21,28 @@ pub enum ExplainFault {
     /// X4: a written tree does not fit its position, seen without its children; a wrong number of children is reported at their
     /// node or list.
     Shape,
+}
+
+impl ExplainFault {
+    /// Its error code: `X1` to `X4`.
+    pub fn code(self) -> &'static str
+        ensures { result.now ≡ tree_fault_code self }
+    {
+        match self {
+            ExplainFault::Root => "X1",
+            ExplainFault::Production => "X2",
+            ExplainFault::Child => "X3",
+            ExplainFault::Shape => "X4",
+        }
+    }
+}
+
+impl fmt::Display for ExplainFault {
+    ghost output = { λ fault. Some (tree_fault_code fault) };
+
+    fn fmt<W: fmt::Write>(&self, f: &mut fmt::Formatter<W>) -> fmt::Result {
+        fmt::Display::fmt(self.code(), f)
+    }
 }
 
 /// Why a tree is not translated.

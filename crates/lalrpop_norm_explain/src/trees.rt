@@ -1,10 +1,12 @@
 //! Derivation trees, written and lowered.
 ghost use Rattle.std.specs.Prelude.{◌≡◌};
 
+mod copy;
+
 use lalrpop_norm_tree_names::names::{NonterminalString, TerminalLiteral, TerminalString};
 
 /// A derivation tree of a lowered grammar.
-#[derive(Drop)]
+#[derive(Debug, PartialEq, Eq, Drop)]
 pub enum LoweredTree {
     /// A terminal.
     Leaf(TerminalString),
@@ -17,7 +19,7 @@ pub enum LoweredTree {
 }
 
 /// A tree of the written grammar.
-#[derive(Drop)]
+#[derive(Debug, PartialEq, Eq, Drop)]
 pub enum WrittenTree {
     /// A terminal; that of `!` is the error terminal.
     Leaf(TerminalString),

@@ -1,10 +1,11 @@
 //! Origins of alternatives and of productions.
-ghost use Rattle.std.specs.Prelude.{◌≡◌};
+ghost use Rattle.std.specs.Prelude.{◌≡◌, ⊤};
 
 use lalrpop_norm_tree::grammar::parse_tree::NonterminalString;
+use std::alloc::AllocError;
 
 /// Where an alternative or a production comes from.
-#[derive(Drop)]
+#[derive(Debug, PartialEq, Eq, Drop)]
 pub enum Origin {
     /// A start symbol, over its rule.
     Start,
@@ -61,5 +62,15 @@ impl Origin {
             Origin::Lookahead => Origin::Lookahead,
             Origin::Lookbehind => Origin::Lookbehind,
         }
+    }
+}
+
+impl Clone for Origin {
+    ghost is_clone = { λ a b. b ≡ a };
+
+    ghost is_infallible = { λ _. ⊤ };
+
+    fn clone(&self) -> Result<Origin, AllocError> {
+        Ok(self.again())
     }
 }
