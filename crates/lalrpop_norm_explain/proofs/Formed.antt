@@ -12,7 +12,7 @@ use Rattle.lalrpop_norm_explain.specs.Forms.{Form, group_form, star_form, plus_f
 use Rattle.lalrpop_norm_explain.specs.Laws.{IsNameOf, RealizedIsFormed}
 use Rattle.lalrpop_norm_explain.proofs.Back.{visited_and}
 
-no_form : (name : ClosedSymbol → Name) (n : Name) (f : ℕ → Option ClosedSymbols) (k left : ℕ) (rest : List Clause) → form_of (map (clause_production name) rest) ≡ None →
+pub no_form : (name : ClosedSymbol → Name) (n : Name) (f : ℕ → Option ClosedSymbols) (k left : ℕ) (rest : List Clause) → form_of (map (clause_production name) rest) ≡ None →
     form_of (map (clause_production name) (numbered n f k left ++ rest)) ≡ None
 no_form name n f k zero rest h = h
 no_form name n f k (suc left) rest h = go (f k) (no_form name n f (suc k) left rest h)
@@ -22,7 +22,7 @@ no_form name n f k (suc left) rest h = go (f k) (no_form name n f (suc k) left r
     go None ih = ih
     go (Some parts) ih = refl
 
-step_no_form : (name : ClosedSymbol → Name) (n : Name) (o : Option (Option ℕ)) → form_of (map (clause_production name) (step_clauses n o)) ≡ None
+pub step_no_form : (name : ClosedSymbol → Name) (n : Name) (o : Option (Option ℕ)) → form_of (map (clause_production name) (step_clauses n o)) ≡ None
 step_no_form name n None = refl
 step_no_form name n (Some b) = refl
 

@@ -4,9 +4,11 @@ pub mod Steps
 pub mod Derivations
 pub mod Back
 pub mod NoFault
+pub mod Shapes
 pub mod Ways
 pub mod Formed
 pub mod Examples
+pub mod ShapeExamples
 pub mod WaySteps
 pub mod Lowered
 pub mod Calls

@@ -48,7 +48,7 @@ module _ (name : ClosedSymbol → Name) (N n : Name) (f : ℕ → Option ClosedS
           (r.0, rw (text_same n, w) r.1)
 
   -- and without parts it is not found
-  own_absent : (rest : List Clause) → f K ≡ None → ((j : ℕ) → own_plan N n K j (map (clause_production name) rest) ≡ None) → (i k left : ℕ) →
+  pub own_absent : (rest : List Clause) → f K ≡ None → ((j : ℕ) → own_plan N n K j (map (clause_production name) rest) ≡ None) → (i k left : ℕ) →
       own_plan N n K i (map (clause_production name) (numbered n f k left ++ rest)) ≡ None
   own_absent rest h r i k zero = r i
   own_absent rest h r i k (suc left) = go (f k) refl (nat_eq k K) refl (λ j. own_absent rest h r j (suc k) left)
@@ -63,7 +63,7 @@ module _ (name : ClosedSymbol → Name) (N n : Name) (f : ℕ → Option ClosedS
       go (Some parts) e false w ih = rw (text_same n, w) (ih (suc i))
 
   -- own alternatives are no steps
-  step_behind : (below : Name → Option TreePlan) (rest : List Clause) (i k left : ℕ) →
+  pub step_behind : (below : Name → Option TreePlan) (rest : List Clause) (i k left : ℕ) →
       (j : ℕ) × (step N below i (map (clause_production name) (numbered n f k left ++ rest)) ≡ step N below j (map (clause_production name) rest))
   step_behind below rest i k zero = (i, refl)
   step_behind below rest i k (suc left) = go (f k) (λ j. step_behind below rest j (suc k) left)
@@ -83,7 +83,7 @@ one_for_all M name no_trees no_symbols h = refl
 one_for_all M name (tree_and t ts) (symbol_and g gs) h = one_for_all M name ts gs h.1
 one_for_all M name _ _ h = absurd h
 
-no_own_step : (name : ClosedSymbol → Name) (N n m : Name) (K : ℕ) (o : Option (Option ℕ)) (j : ℕ) → own_plan N n K j (map (clause_production name) (step_clauses m o)) ≡ None
+pub no_own_step : (name : ClosedSymbol → Name) (N n m : Name) (K : ℕ) (o : Option (Option ℕ)) (j : ℕ) → own_plan N n K j (map (clause_production name) (step_clauses m o)) ≡ None
 no_own_step name N n m K None j = refl
 no_own_step name N n m K (Some b) j = refl
 
@@ -125,7 +125,7 @@ module _ (M : Meaning) (C : HasCounts M) (V : HasLevels M) (name : ClosedSymbol 
       (r.0, rw (R.productions (reference m b) tt known) (r.1 ∙ (rw (e, found) refl)))
 
   module _ (rank : Name → Option ℕ → ℕ) (falls : IsRank M rank) where
-    rule_planned : (m : Name) (k : ℕ) (parts : ClosedSymbols) (fuel : ℕ) (b : Option ℕ) → Known (reference m b) → rank m b ≤ fuel → M.reference_parts m b k ≡ Some parts →
+    pub rule_planned : (m : Name) (k : ℕ) (parts : ClosedSymbols) (fuel : ℕ) (b : Option ℕ) → Known (reference m b) → rank m b ≤ fuel → M.reference_parts m b k ≡ Some parts →
         (q : TreePlan) × (node_plan P fuel (name (reference m b)) m k ≡ Some q) × (q.wanted ≡ symbols_of name parts) × AllKnown Known parts
     rule_planned m k parts zero b known deep h = elim (V.split m b k parts h) [
       | inl e ↦
@@ -147,7 +147,7 @@ module _ (M : Meaning) (C : HasCounts M) (V : HasLevels M) (name : ClosedSymbol 
           (record { steps = (name (reference m b), s.0) ∷ i.0.steps; name = i.0.name; shape = i.0.shape; wanted = i.0.wanted }, rw (nothing_own, s.1) refl, i.2, i.3)
     ]
 
-  call_planned : (m : Name) (args : ClosedSymbols) (k : ℕ) (parts : ClosedSymbols) (fuel : ℕ) → Known (call m args) → M.call_parts m args k ≡ Some parts →
+  pub call_planned : (m : Name) (args : ClosedSymbols) (k : ℕ) (parts : ClosedSymbols) (fuel : ℕ) → Known (call m args) → M.call_parts m args k ≡ Some parts →
       (q : TreePlan) × (node_plan P fuel (name (call m args)) m k ≡ Some q) × (q.wanted ≡ symbols_of name parts) × AllKnown Known parts
   call_planned m args k parts fuel known e =
       let z : 0 + k ≡ k = omega arith in

@@ -13,6 +13,7 @@ use Rattle.lalrpop_norm_explain.specs.TreeFaults.{explain_faults}
 use Rattle.lalrpop_norm_explain.specs.Forms.{IsFormedIn}
 use Rattle.lalrpop_norm_explain.specs.Plans.{most_steps}
 use Rattle.lalrpop_norm_explain.specs.TreeLowering.{shape_faults, lowered_by, lower_faults, lowered_root}
+use Rattle.lalrpop_norm_explain.specs.WrittenShapes.{misshapen, written_faults}
 
 -- a derivation tree of a name at which trees may begin
 abbrev pub IsRootedTree : (Name → Bool) → ProductionTable → LoweredTree → Type 0
@@ -58,6 +59,21 @@ TreesHaveNoFault = (M : Meaning) → HasCounts M → HasLevels M →
     (g : ClosedSymbol) → IsKnown declared met g → (t : WrittenTree) → IsTreeOf M t g →
     shape_faults P fuel t (symbol_of name g) ≡ []
 
+-- In any meaning a tree has no fault exactly where it is one of the ground symbol.
+abbrev pub ShapedAreTrees : Type 0
+ShapedAreTrees = (M : Meaning) (t : WrittenTree) (g : ClosedSymbol) → (misshapen M t g ≡ []) ↔ IsTreeOf M t g
+
+-- Where the grammar realizes a written one, and no rule has more levels than the fuel, the faults of a tree at a known symbol are
+-- those of the written language.
+abbrev pub FaultsAreWritten : Type 0
+FaultsAreWritten = (M : Meaning) → HasCounts M → HasLevels M →
+    (name : ClosedSymbol → Name) (P : ProductionTable) (declared met : List ClosedSymbol) →
+    Realizes M name P (IsKnown declared met) →
+    (fuel : ℕ) → (rank : Name → Option ℕ → ℕ) → IsRank M rank →
+    ((n : Name) (b : Option ℕ) → IsKnown declared met (reference n b) → rank n b ≤ fuel) →
+    (g : ClosedSymbol) → IsKnown declared met g → (t : WrittenTree) →
+    shape_faults P fuel t (symbol_of name g) ≡ misshapen M t g
+
 -- Both ways, of a grammar that realizes a written one: at a known symbol a written tree has no fault exactly where it is one of
 -- the symbol's, and then it corresponds to what it is lowered to; and each way undoes the other.
 pub record WaysFit (M : Meaning) (name : ClosedSymbol → Name) (P : ProductionTable) (fuel : ℕ) (g : ClosedSymbol) : Type 0 where
@@ -91,17 +107,21 @@ abbrev pub IsWritten : Meaning → (Name → Bool) → WrittenTree → Type 0
 IsWritten M roots t = (n : Name) × (roots n ≡ true) × IsTreeOf M t (reference n None)
 
 -- The two calls. Each finds no fault exactly in the trees of its grammar, and answers the corresponding tree, of the same name;
--- each undoes the other.
+-- each undoes the other. The faults of a written tree are those of the written language.
 pub record CallsFit (M : Meaning) (name : ClosedSymbol → Name) (P : ProductionTable) (roots : Name → Bool) : Type 0 where
   pub explains : (u : LoweredTree) → (explain_faults roots P u ≡ []) ↔ IsRootedTree roots P u
   pub explained : (u : LoweredTree) (n : Name) → roots n ≡ true → IsDerivation P u (nonterminal_symbol n) →
       IsTreeOf M (written_tree P u) (reference n None) × Pairs M name (reference n None) (written_tree P u) u
-  pub lowers : (t : WrittenTree) → (lower_faults roots P most_steps t ≡ []) ↔ IsWritten M roots t
+  pub lowers : (t : WrittenTree) → lower_faults roots P most_steps t ≡ written_faults M roots t
+  pub written : (t : WrittenTree) → (written_faults M roots t ≡ []) ↔ IsWritten M roots t
   pub lowered : (t : WrittenTree) (n : Name) → roots n ≡ true → IsTreeOf M t (reference n None) →
       IsDerivation P (lowered_root P most_steps t) (nonterminal_symbol n)
       × Pairs M name (reference n None) t (lowered_root P most_steps t)
   pub back_forward : (t : WrittenTree) → IsWritten M roots t → written_tree P (lowered_root P most_steps t) ≡ t
   pub forward_back : (u : LoweredTree) → IsRootedTree roots P u → lowered_root P most_steps (written_tree P u) ≡ u
+  -- corresponding trees are the answers to one another
+  pub paired : (t : WrittenTree) (u : LoweredTree) (n : Name) → roots n ≡ true → Pairs M name (reference n None) t u →
+      (written_tree P u ≡ t) × (lowered_root P most_steps t ≡ u)
 
 -- The calls fit where the grammar realizes a written one whose rules, each taken by itself, are under their own names, and whose
 -- levels are numbers of 32 bits.

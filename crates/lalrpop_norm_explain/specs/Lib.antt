@@ -5,5 +5,7 @@ pub mod TreeFaults
 pub mod Forms
 pub mod Plans
 pub mod TreeLowering
+pub mod WrittenShapes
 pub mod Laws
 pub mod Anywhere
+pub mod FaultCodes

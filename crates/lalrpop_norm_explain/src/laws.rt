@@ -1,5 +1,5 @@
 //! What no fault means. Each function is a law: it does nothing, and its contract is a theorem.
-ghost use Rattle.lalrpop_norm_explain.specs.Laws.{FaultlessIsRooted, FaultlessIsPaired, FaultlessComesBack, TreesHaveNoFault, WaysAreInverse, RealizedIsFormed, RealizedCallsFit};
+ghost use Rattle.lalrpop_norm_explain.specs.Laws.{FaultlessIsRooted, FaultlessIsPaired, FaultlessComesBack, TreesHaveNoFault, ShapedAreTrees, FaultsAreWritten, WaysAreInverse, RealizedIsFormed, RealizedCallsFit};
 ghost use Rattle.lalrpop_norm_explain.specs.Anywhere.{FaultlessIsDerived, FaultlessIsReadAnywhere, RealizedCallFitsAnywhere};
 
 /// A lowered tree has no fault exactly where it is a derivation tree of a name at which trees may begin.
@@ -25,6 +25,17 @@ pub fn faultless_comes_back()
 /// Where the grammar realizes a written one, a tree of a known symbol has no fault.
 pub fn trees_have_no_fault()
     ensures { TreesHaveNoFault }
+{}
+
+/// In any meaning exactly the trees of a ground symbol have no fault there, in terms of the written language.
+pub fn shaped_are_trees()
+    ensures { ShapedAreTrees }
+{}
+
+/// Where the grammar realizes a written one, the faults of each tree at a known symbol, with their paths, are those of the
+/// written language.
+pub fn faults_are_written()
+    ensures { FaultsAreWritten }
 {}
 
 /// Of a grammar that realizes a written one, each of the two ways answers the corresponding tree and undoes the other.
