@@ -13,6 +13,7 @@ ghost use Rattle.lalrpop_norm_json.specs.ItemForms.{grammar_form, IsForm};
 ghost use Rattle.lalrpop_norm_json.specs.Shapes as shape;
 ghost use Rattle.lalrpop_norm_json.specs.Shapes.{is};
 
+pub mod laws;
 mod tree;
 
 use json::{Reader, Scratch};

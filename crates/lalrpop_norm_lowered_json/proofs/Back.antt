@@ -9,36 +9,13 @@ use Rattle.lalrpop_norm_tree_parts.specs.Paths.{PathData}
 use Rattle.lalrpop_norm_tree_parts.specs.Reprs.{ReprData, tuple, slice, nominal, associated, of_lifetime, reference}
 use Rattle.lalrpop_norm_tree_parts.specs.Reprs.{trait_object, function, Reprs, no_reprs, repr_and, MaybeRepr, no_repr, returns, unit_type}
 use Rattle.lalrpop_norm_json.specs.Forms.{type_parameter_form, path_form}
+use Rattle.lalrpop_norm_json.proofs.ListBack.{items_in}
+use Rattle.lalrpop_norm_json.proofs.NameBack.{truth_in, path_in, path_back, parameter_in, parameters_back}
 use Rattle.lalrpop_norm_lowered_json.specs.LoweredForms.{repr_form, reprs_form, maybe_repr_form}
-
-abbrev pub text_in : Data → List ℕ
-text_in (string s) = s
-text_in _ = []
-
-abbrev pub texts_in : Items → List (List ℕ)
-texts_in no_items = []
-texts_in (item d ds) = text_in d ∷ texts_in ds
-
-abbrev pub truth_in : Data → Bool
-truth_in (boolean b) = b
-truth_in _ = false
 
 abbrev maybe_lifetime_in : Data → Option Lifetime
 maybe_lifetime_in (string s) = Some (record { 0 = s })
 maybe_lifetime_in _ = None
-
-abbrev pub path_in : Data → PathData
-path_in (object (member k a (member l (array ds) no_members))) = record { absolute = truth_in a; ids = texts_in ds }
-path_in _ = record { absolute = false; ids = [] }
-
-abbrev pub parameter_in : Data → TypeParameter
-parameter_in (object (member k d no_members)) =
-    if bytes_eq k (codes "Id") then parameter.Id (text_in d) else parameter.Lifetime (record { 0 = text_in d })
-parameter_in _ = parameter.Id []
-
-abbrev parameters_in : Items → List TypeParameter
-parameters_in no_items = []
-parameters_in (item d ds) = parameter_in d ∷ parameters_in ds
 
 abbrev applied_in : List ℕ → PathData → Reprs → ReprData
 applied_in k p ts = if bytes_eq k (codes "Nominal") then nominal p ts else trait_object p ts
@@ -68,23 +45,8 @@ abbrev mutual
   repr_of k (member l d (member m (array ts) no_members)) = applied_in k (path_in d) (reprs_in ts)
   repr_of k (member l d (member m e (member n f no_members))) = reference (maybe_lifetime_in d) (truth_in e) (repr_in f)
   repr_of k (member l (array fs) (member m (array ts) (member n p (member o r no_members)))) =
-      function (parameters_in fs) (path_in p) (reprs_in ts) (maybe_repr_in r)
+      function (items_in parameter_in fs) (path_in p) (reprs_in ts) (maybe_repr_in r)
   repr_of k _ = unit_type
-
-texts_back : (ss : List (List ℕ)) → texts_in (items_of (map string ss)) ≡ ss
-texts_back [] = refl
-texts_back (s ∷ ss) = ap (λ ts. s ∷ ts) (texts_back ss)
-
-pub path_back : (p : PathData) → path_in (path_form p) ≡ p
-path_back p = ap (λ (ids : List (List ℕ)). record { absolute = p.absolute; ids = ids }) (texts_back p.ids)
-
-pub parameter_back : (p : TypeParameter) → parameter_in (type_parameter_form p) ≡ p
-parameter_back (parameter.Lifetime l) = refl
-parameter_back (parameter.Id a) = refl
-
-parameters_back : (ps : List TypeParameter) → parameters_in (items_of (map type_parameter_form ps)) ≡ ps
-parameters_back [] = refl
-parameters_back (p ∷ ps) = ap₂ (λ (q : TypeParameter) (qs : List TypeParameter). q ∷ qs) (parameter_back p) (parameters_back ps)
 
 -- the data of a type is an object of one member
 under_slice : (t : ReprData) → repr_in (repr_form (slice t)) ≡ slice (repr_in (repr_form t))

@@ -11,8 +11,10 @@ use Rattle.lalrpop_norm_tree_parts.specs.Bounds.{lifetime_bound, function_bound,
 use Rattle.lalrpop_norm_json.specs.Json.{list_form, maybe_form}
 use Rattle.lalrpop_norm_json.specs.Forms.{type_parameter_form}
 use Rattle.lalrpop_norm_lowered_json.specs.LoweredForms.{repr_form, lowered_bound_parameter_form, lowered_bound_form, lowered_clause_form}
-use Rattle.lalrpop_norm_lowered_json.proofs.Back.{text_in, path_in, path_back, parameter_in, parameter_back, repr_in, repr_back}
-use Rattle.lalrpop_norm_lowered_json.proofs.ListBack.{◌⊛◌, is_null, list_in, list_back, maybe_in, maybe_back}
+use Rattle.lalrpop_norm_lowered_json.proofs.Back.{repr_in, repr_back}
+use Rattle.lalrpop_norm_json.proofs.NameBack.{path_back, parameter_in, parameters_back}
+use Rattle.lalrpop_norm_json.proofs.ClauseBack.{bound_parameter_in, bound_in, function_of, trait_of}
+use Rattle.lalrpop_norm_json.proofs.ListBack.{◌⊛◌, is_null, list_in, list_back, maybe_in, maybe_back}
 
 -- the form of a type is not null
 repr_there : (t : ReprData) → is_null (repr_form t) ≡ false
@@ -31,66 +33,26 @@ reprs_back = list_back repr_form repr_in repr_back
 pub maybe_repr_back : (r : Option ReprData) → maybe_in repr_in (maybe_form repr_form r) ≡ r
 maybe_repr_back = maybe_back repr_form repr_in repr_back repr_there
 
-pub parameters_back : (ps : List TypeParameter) → list_in parameter_in (list_form type_parameter_form ps) ≡ ps
-parameters_back = list_back type_parameter_form parameter_in parameter_back
-
-abbrev lifetime_in : Data → Lifetime
-lifetime_in d = record { 0 = text_in d }
-
 -- ---- bounds
 
-abbrev associated_in : Data → BoundParameterData ReprData
-associated_in (array (item a (item t no_items))) = associated_type (text_in a) (repr_in t)
-associated_in _ = lifetime_parameter (record { 0 = [] })
-
-abbrev bound_parameter_in : Data → BoundParameterData ReprData
-bound_parameter_in (object (member k d no_members)) =
-    if bytes_eq k (codes "Lifetime") then lifetime_parameter (lifetime_in d)
-    else if bytes_eq k (codes "TypeParameter") then type_parameter (repr_in d)
-    else associated_in d
-bound_parameter_in _ = lifetime_parameter (record { 0 = [] })
-
-bound_parameter_back : (p : BoundParameterData ReprData) → bound_parameter_in (lowered_bound_parameter_form p) ≡ p
+bound_parameter_back : (p : BoundParameterData ReprData) → bound_parameter_in repr_in (lowered_bound_parameter_form p) ≡ p
 bound_parameter_back (lifetime_parameter l) = refl
 bound_parameter_back (type_parameter t) = ap (λ (u : ReprData). type_parameter u) (repr_back t)
 bound_parameter_back (associated_type a t) = ap (λ (u : ReprData). associated_type a u) (repr_back t)
 
-abbrev function_bound_in : Data → BoundData ReprData
-function_bound_in (object (member k fs (member l ts (member m p (member n r no_members))))) =
-    function_bound (list_in parameter_in fs) (path_in p) (list_in repr_in ts) (maybe_in repr_in r)
-function_bound_in _ = lifetime_bound (record { 0 = [] })
-
-abbrev trait_bound_in : Data → BoundData ReprData
-trait_bound_in (object (member k fs (member l ps (member m p no_members)))) =
-    trait_bound (list_in parameter_in fs) (path_in p) (list_in bound_parameter_in ps)
-trait_bound_in _ = lifetime_bound (record { 0 = [] })
-
-abbrev bound_in : Data → BoundData ReprData
-bound_in (object (member k d no_members)) =
-    if bytes_eq k (codes "Lifetime") then lifetime_bound (lifetime_in d)
-    else if bytes_eq k (codes "Fn") then function_bound_in d
-    else trait_bound_in d
-bound_in _ = lifetime_bound (record { 0 = [] })
-
-abbrev function_of : List TypeParameter → PathData → List ReprData → Option ReprData → BoundData ReprData
-function_of fs p ts r = function_bound fs p ts r
-
-abbrev trait_of : List TypeParameter → PathData → List (BoundParameterData ReprData) → BoundData ReprData
-trait_of fs p ps = trait_bound fs p ps
-
-bound_back : (b : BoundData ReprData) → bound_in (lowered_bound_form b) ≡ b
+bound_back : (b : BoundData ReprData) → bound_in repr_in (lowered_bound_form b) ≡ b
 bound_back (lifetime_bound l) = refl
 bound_back (function_bound fs p ts r) =
     ap function_of (parameters_back fs) ⊛ path_back p ⊛ reprs_back ts ⊛ maybe_repr_back r
 bound_back (trait_bound fs p ps) =
-    ap trait_of (parameters_back fs) ⊛ path_back p ⊛ list_back lowered_bound_parameter_form bound_parameter_in bound_parameter_back ps
+    ap trait_of (parameters_back fs) ⊛ path_back p ⊛ list_back lowered_bound_parameter_form (bound_parameter_in repr_in) bound_parameter_back ps
 
 -- ---- where clauses
 
 abbrev pub lowered_clause_in : Data → LoweredClause
 lowered_clause_in (object (member k (object (member l a (member m b no_members))) no_members)) =
     if bytes_eq k (codes "Forall") then for_all (list_in parameter_in a) (lowered_clause_in b)
-    else has_bound (repr_in b) (bound_in a)
+    else has_bound (repr_in b) (bound_in repr_in a)
 lowered_clause_in _ = has_bound unit_type (lifetime_bound (record { 0 = [] }))
 
 pub lowered_clause_back : (c : LoweredClause) → lowered_clause_in (lowered_clause_form c) ≡ c

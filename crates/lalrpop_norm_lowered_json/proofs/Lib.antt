@@ -3,14 +3,13 @@ pub mod BoundForms
 pub mod ClauseBack
 pub mod Fields
 pub mod LineFeed
-pub mod ListBack
-pub mod NameBack
 pub mod Ordered
 pub mod OrderedClauses
 pub mod OrderedNames
 pub mod OrderedWhole
 pub mod PatternBack
 pub mod PatternKinds
+pub mod RowsBack
 pub mod Steps
 pub mod TextBack
 pub mod Texts

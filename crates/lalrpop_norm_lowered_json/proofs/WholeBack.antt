@@ -35,14 +35,17 @@ use Rattle.lalrpop_norm_lowered_json.specs.WholeForms.{lookaround_form, inlined_
 use Rattle.lalrpop_norm_lowered_json.specs.WholeForms.{entry_of_match_form, intern_token_form, terminals_form, type_table_form}
 use Rattle.lalrpop_norm_lowered_json.specs.WholeForms.{lowered_parameter_form, codegen_form, algorithm_form, lowered_form}
 use Rattle.lalrpop_norm_lowered_json.specs.WholeForms.{origin_form, whole_form}
-use Rattle.lalrpop_norm_lowered_json.proofs.Back.{text_in, truth_in, parameter_in, repr_in, repr_back}
-use Rattle.lalrpop_norm_lowered_json.proofs.ListBack.{◌⊛◌, same, list_in, list_back, maybe_in, maybe_back, rows_in, rows_back}
-use Rattle.lalrpop_norm_lowered_json.proofs.NameBack.{number_in, span_in, nonterminal_in, nonterminal_back, literal_in, literal_back}
-use Rattle.lalrpop_norm_lowered_json.proofs.NameBack.{terminal_in, terminal_back, attribute_list_in, attributes_back}
-use Rattle.lalrpop_norm_lowered_json.proofs.NameBack.{visibility_in, visibility_back, mapping_in, mapping_back}
-use Rattle.lalrpop_norm_lowered_json.proofs.NameBack.{argument_pattern_in, argument_pattern_back}
-use Rattle.lalrpop_norm_lowered_json.proofs.PatternBack.{pattern_in, pattern_back}
-use Rattle.lalrpop_norm_lowered_json.proofs.ClauseBack.{reprs_back, maybe_repr_back, parameters_back}
+use Rattle.lalrpop_norm_json.proofs.ListBack.{◌⊛◌, same, list_in, list_back, maybe_in, maybe_back}
+use Rattle.lalrpop_norm_json.proofs.NameBack.{number_in, span_in, nonterminal_in, nonterminal_back, literal_in, literal_back}
+use Rattle.lalrpop_norm_json.proofs.NameBack.{terminal_in, terminal_back, attribute_list_in, attributes_back}
+use Rattle.lalrpop_norm_json.proofs.NameBack.{visibility_in, visibility_back, mapping_in, mapping_back}
+use Rattle.lalrpop_norm_json.proofs.NameBack.{argument_pattern_in, argument_pattern_back}
+use Rattle.lalrpop_norm_json.proofs.NameBack.{text_in, texts_back, truth_in, parameter_in, parameters_back}
+use Rattle.lalrpop_norm_json.proofs.PatternBack.{pattern_in}
+use Rattle.lalrpop_norm_lowered_json.proofs.Back.{repr_in, repr_back}
+use Rattle.lalrpop_norm_lowered_json.proofs.RowsBack.{rows_in, rows_back}
+use Rattle.lalrpop_norm_lowered_json.proofs.PatternBack.{pattern_back}
+use Rattle.lalrpop_norm_lowered_json.proofs.ClauseBack.{reprs_back, maybe_repr_back}
 use Rattle.lalrpop_norm_lowered_json.proofs.ClauseBack.{lowered_clause_in, lowered_clause_back}
 
 -- ---- productions
@@ -268,7 +271,7 @@ grammar_of actions algorithm conversions token attributes nonterminals parameter
 abbrev grammar_in : Data → LoweredGrammar
 grammar_in (object (member _ d0 (member _ d1 (member _ d2 (member _ d3 (member _ d4 (member _ d5 (member _ d6 (member _ d7
     (member _ d8 (member _ d9 (member _ d10 (member _ d11 (member _ d12 (member _ d13 (member _ d14 no_members)))))))))))))))) =
-    grammar_of (list_in action_defn_in d0) (algorithm_in d1) (rows_in terminal_in pattern_in d2) (maybe_in intern_token_in d3)
+    grammar_of (list_in action_defn_in d0) (algorithm_in d1) (rows_in terminal_in (pattern_in repr_in) d2) (maybe_in intern_token_in d3)
     (list_in text_in d4) (rows_in nonterminal_in entry_in d5) (list_in lowered_parameter_in d6) (text_in d7)
     (rows_in nonterminal_in nonterminal_in d8) (terminals_in d9) (list_in parameter_in d10) (types_in d11) (list_in text_in d12)
     (truth_in d13) (list_in lowered_clause_in d14)
@@ -276,14 +279,11 @@ grammar_in _ =
     grammar_of [] (algorithm_in null) [] (maybe_in intern_token_in null) [] [] [] [] [] (terminals_in null) [] (types_in null) []
     false []
 
-texts_back : (ss : List (List ℕ)) → list_in text_in (list_form string ss) ≡ ss
-texts_back = list_back string text_in (λ s. refl)
-
 lowered_back : (g : LoweredGrammar) → grammar_in (lowered_form g) ≡ g
 lowered_back g =
     ap grammar_of (list_back action_defn_form action_defn_in action_defn_back g.actions)
     ⊛ algorithm_back g.algorithm
-    ⊛ rows_back terminal_form lowered_pattern_form terminal_in pattern_in terminal_back pattern_back g.conversions
+    ⊛ rows_back terminal_form lowered_pattern_form terminal_in (pattern_in repr_in) terminal_back pattern_back g.conversions
     ⊛ maybe_back intern_token_form intern_token_in intern_token_back (λ t. refl) g.intern_token
     ⊛ texts_back g.module_attributes
     ⊛ rows_back nonterminal_form entry_form nonterminal_in entry_in nonterminal_back entry_back g.nonterminals

@@ -1,24 +1,39 @@
--- Names, terminals, attributes, visibilities and patterns of arguments back from their forms.
-use Rattle.std.proofs.Common.{◌≡◌, ℕ, [], bytes_eq, if◌then◌else◌, codes, refl, ap, ap₂}
+-- Names, paths, terminals, attributes, visibilities and patterns of arguments back from their forms.
+use Rattle.std.proofs.Common.{◌≡◌, ℕ, List, [], Bool, false, bytes_eq, if◌then◌else◌, codes, refl, ap, ap₂}
 use Rattle.lalrpop_norm_tree_names.specs.declared.names.Span.{Span}
 use Rattle.lalrpop_norm_tree_names.specs.declared.names.NonterminalString.{NonterminalString}
+use Rattle.lalrpop_norm_tree_names.specs.declared.names.Lifetime.{Lifetime}
+use Rattle.lalrpop_norm_tree_names.specs.declared.names.TypeParameter.{TypeParameter}
+use Rattle.lalrpop_norm_tree_names.specs.declared.names.TypeParameter.TheVariants as parameter
 use Rattle.lalrpop_norm_tree_names.specs.declared.names.TerminalLiteral.{TerminalLiteral}
 use Rattle.lalrpop_norm_tree_names.specs.declared.names.TerminalLiteral.TheVariants.{Quoted, Regex}
 use Rattle.lalrpop_norm_tree_names.specs.declared.names.TerminalString.{TerminalString}
 use Rattle.lalrpop_norm_tree_names.specs.declared.names.TerminalString.TheVariants.{Literal, Bare, Error}
 use Rattle.serde_json.specs.Data.{Data, number, unsigned, boolean, string, array, object, Items, no_items, item, no_members, member}
+use Rattle.lalrpop_norm_tree_parts.specs.Paths.{PathData}
 use Rattle.lalrpop_norm_tree_parts.specs.Attributes.{Argument, empty, paren, equal, AttributeData, attribute, Attributes}
 use Rattle.lalrpop_norm_tree_parts.specs.Attributes.{no_attributes, attribute_and}
 use Rattle.lalrpop_norm_tree.specs.Symbols.{ArgumentPattern, one_name, several, ArgumentPatterns, no_arguments, argument_and}
 use Rattle.lalrpop_norm_tree.specs.declared.items.MatchMapping.{MatchMapping}
 use Rattle.lalrpop_norm_tree.specs.declared.items.MatchMapping.TheVariants.{Terminal, Skip}
 use Rattle.lalrpop_norm_tree.specs.Items.{VisibilityData, everywhere, within, private}
-use Rattle.lalrpop_norm_json.specs.Forms.{span_form, nonterminal_form, literal_form, terminal_form, argument_form, attribute_form}
-use Rattle.lalrpop_norm_json.specs.Forms.{attributes_form, path_form}
+use Rattle.lalrpop_norm_json.specs.Json.{list_form}
+use Rattle.lalrpop_norm_json.specs.Forms.{nonterminal_form, literal_form, terminal_form, argument_form, attribute_form}
+use Rattle.lalrpop_norm_json.specs.Forms.{attributes_form, type_parameter_form, path_form}
 use Rattle.lalrpop_norm_json.specs.SymbolForms.{argument_pattern_form, argument_patterns_form}
 use Rattle.lalrpop_norm_json.specs.ItemForms.{visibility_form, mapping_form}
-use Rattle.lalrpop_norm_lowered_json.proofs.Back.{text_in, path_in, path_back}
-use Rattle.lalrpop_norm_lowered_json.proofs.ListBack.{maybe_in, maybe_back}
+use Rattle.lalrpop_norm_json.proofs.ListBack.{list_in, list_back, maybe_in, maybe_back}
+
+abbrev pub text_in : Data → List ℕ
+text_in (string s) = s
+text_in _ = []
+
+pub texts_back : (ss : List (List ℕ)) → list_in text_in (list_form string ss) ≡ ss
+texts_back = list_back string text_in (λ s. refl)
+
+abbrev pub truth_in : Data → Bool
+truth_in (boolean b) = b
+truth_in _ = false
 
 abbrev pub number_in : Data → ℕ
 number_in (number (unsigned n)) = n
@@ -33,6 +48,28 @@ nonterminal_in d = record { 0 = text_in d }
 
 pub nonterminal_back : (n : NonterminalString) → nonterminal_in (nonterminal_form n) ≡ n
 nonterminal_back n = refl
+
+abbrev pub lifetime_in : Data → Lifetime
+lifetime_in d = record { 0 = text_in d }
+
+abbrev pub path_in : Data → PathData
+path_in (object (member k a (member l ids no_members))) = record { absolute = truth_in a; ids = list_in text_in ids }
+path_in _ = record { absolute = false; ids = [] }
+
+pub path_back : (p : PathData) → path_in (path_form p) ≡ p
+path_back p = ap (λ (ids : List (List ℕ)). record { absolute = p.absolute; ids = ids }) (texts_back p.ids)
+
+abbrev pub parameter_in : Data → TypeParameter
+parameter_in (object (member k d no_members)) =
+    if bytes_eq k (codes "Id") then parameter.Id (text_in d) else parameter.Lifetime (lifetime_in d)
+parameter_in _ = parameter.Id []
+
+parameter_back : (p : TypeParameter) → parameter_in (type_parameter_form p) ≡ p
+parameter_back (parameter.Lifetime l) = refl
+parameter_back (parameter.Id a) = refl
+
+pub parameters_back : (ps : List TypeParameter) → list_in parameter_in (list_form type_parameter_form ps) ≡ ps
+parameters_back = list_back type_parameter_form parameter_in parameter_back
 
 abbrev pub literal_in : Data → TerminalLiteral
 literal_in (object (member k d no_members)) = if bytes_eq k (codes "Quoted") then Quoted (text_in d) else Regex (text_in d)
@@ -113,7 +150,7 @@ abbrev mutual
       one_name (record { mutable = m; name = text_in a })
   argument_pattern_in _ = several no_arguments
 
-  argument_patterns_in : Items → ArgumentPatterns
+  pub argument_patterns_in : Items → ArgumentPatterns
   argument_patterns_in no_items = no_arguments
   argument_patterns_in (item d ds) = argument_and (argument_pattern_in d) (argument_patterns_in ds)
 
@@ -122,6 +159,6 @@ mutual
   argument_pattern_back (one_name n) = refl
   argument_pattern_back (several ps) = ap several (argument_patterns_back ps)
 
-  argument_patterns_back : (ps : ArgumentPatterns) → argument_patterns_in (argument_patterns_form ps) ≡ ps
+  pub argument_patterns_back : (ps : ArgumentPatterns) → argument_patterns_in (argument_patterns_form ps) ≡ ps
   argument_patterns_back no_arguments = refl
   argument_patterns_back (argument_and p ps) = ap₂ argument_and (argument_pattern_back p) (argument_patterns_back ps)
