@@ -4,3 +4,7 @@ pub mod Counts
 pub mod Fitting
 pub mod SoFar
 pub mod Refusals
+pub mod TreesBack
+pub mod NoFeed
+pub mod OneLine
+pub mod LinesBack

@@ -1,3 +1,4 @@
 pub mod TreeLines
 pub mod LineForms
 pub mod Lines
+pub mod Laws
