@@ -1,13 +1,9 @@
 -- What two trees show of a written grammar, and why they show nothing.
-use Rattle.std.proofs.Common.{◌≡◌, ℕ, Bool, List, [], ◌∷◌, ◌++◌, map, Some, Ok, refl, sym, ◌∙◌, ap, ap₂, subst}
-use Rattle.std.specs.Prelude.{None}
+use Rattle.std.proofs.Common.{◌≡◌, ℕ, Bool, List, [], ◌∷◌, ◌++◌, map, Some, Ok, sym, ◌∙◌, ap, ap₂, subst}
 use Rattle.lalrpop_norm_tree.specs.Items.{GrammarData}
-use Rattle.lalrpop_norm_theory.specs.Symbols.{Name, reference}
-use Rattle.lalrpop_norm_theory.specs.WrittenTrees.{WrittenTree, leaf, nothing, list, node, IsTreeOf}
+use Rattle.lalrpop_norm_theory.specs.Symbols.{Name}
+use Rattle.lalrpop_norm_theory.specs.WrittenTrees.{WrittenTree}
 use Rattle.lalrpop_norm_theory.specs.LoweredTrees.{LoweredTree, ProductionTable}
-use Rattle.lalrpop_norm_theory.specs.Translations.{lowered_tree}
-use Rattle.lalrpop_norm_theory.proofs.PairSides.{tree_of}
-use Rattle.lalrpop_norm_theory.proofs.PairTranslations.{lowered_to}
 use Rattle.lalrpop_norm_model.specs.Features.{Features}
 use Rattle.lalrpop_norm_explain.specs.declared.traced.Traced.{Traced}
 use Rattle.lalrpop_norm_explain.specs.Derivations.{derivations}
@@ -32,9 +28,7 @@ use Rattle.lexplain_run.specs.Answers.{IsPairedIn, ShowsAmbiguity}
 use Rattle.lexplain_run.specs.Refusals.{IsRefusedPair, StopsShowing}
 use Rattle.lexplain_run.specs.Witnesses.{AreReadings, readings_text}
 use Rattle.lexplain_run.specs.declared.answer.Stop.TheVariants.{Trees}
-use Rattle.lexplain_run.proofs.FaultlessLemmas.{written_faultless}
-use Rattle.lexplain_run.proofs.PairLemmas.{explained_pairs, lowered_pairs}
-use Rattle.lexplain_run.proofs.RefusalLemmas.{levels}
+use Rattle.lexplain_run.proofs.PairLemmas.{explained_pairs}
 
 -- ---- findings
 
@@ -42,14 +36,6 @@ no_first : (fs : List PairFinding) (f : PairFinding) → fs ≡ [] → first_fin
 no_first fs f none first = let e = sym (ap first_finding none) ∙ first in absurd (cc e)
 
 -- ---- trees
-
--- a tree of two rules is one of one rule
-same_rule : (fs : Features) (g : GrammarData) (n m : Name) (t : WrittenTree) →
-    IsTreeOf (written_meaning fs g) t (reference n None) → IsTreeOf (written_meaning fs g) t (reference m None) → n ≡ m
-same_rule fs g n m (leaf a) h i = absurd h
-same_rule fs g n m nothing h i = absurd h
-same_rule fs g n m (list ts) h i = absurd h
-same_rule fs g n m (node r k ts) h i = sym h.0 ∙ i.0
 
 module _ (fs : Features) (g : GrammarData) (P : ProductionTable) (is_rule : Name → Bool) (are : AreRoots fs g is_rule)
     (fit : CallsFit (written_meaning fs g) (written_name fs g) P is_rule) where
@@ -72,15 +58,7 @@ module _ (fs : Features) (g : GrammarData) (P : ProductionTable) (is_rule : Name
       }
 
   lowered_to_it : (t : WrittenTree) (u : LoweredTree) → IsPairedIn fs g t u → lowered_root P most_steps t ≡ u
-  lowered_to_it t u (n, is, pairs) =
-      let M = written_meaning fs g in
-      let name = written_name fs g in
-      let V = levels fs g in
-      let none = written_faultless M V name P is_rule fit n ((are n).1 is) t u pairs in
-      let (m, _, other) = lowered_pairs fs g P is_rule are fit t (lowered_root P most_steps t) none refl in
-      sym (lowered_to M name V other)
-      ∙ ap (λ (x : Name). lowered_tree M name t (reference x None)) (same_rule fs g m n t (tree_of M name V other) (tree_of M name V pairs))
-      ∙ lowered_to M name V pairs
+  lowered_to_it t u (n, is, pairs) = (fit.paired t u n ((are n).1 is) pairs).1
 
   nothing_wrong : (u v : LoweredTree) (t r : WrittenTree) → AreReadings fs g t r → IsPairedIn fs g t u → IsPairedIn fs g r v →
       findings is_rule P u v ≡ []

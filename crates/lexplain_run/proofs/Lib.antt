@@ -1,6 +1,12 @@
 pub mod PairLemmas
 pub mod StopLemmas
+pub mod ReportLemmas
+pub mod RunLemmas
+pub mod LineEnds
 pub mod FaultlessLemmas
 pub mod RefusalLemmas
 pub mod AmbiguousLemmas
 pub mod AnswerLemmas
+pub mod OnePair
+pub mod ThereAndBack
+pub mod OneForm

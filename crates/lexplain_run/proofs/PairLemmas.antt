@@ -1,5 +1,5 @@
 -- What each of the two ways answers is the corresponding tree.
-use Rattle.std.proofs.Common.{◌≡◌, Bool, [], sym, subst}
+use Rattle.std.proofs.Common.{◌≡◌, Bool, [], sym, ◌∙◌, subst}
 use Rattle.lalrpop_norm_tree.specs.Items.{GrammarData}
 use Rattle.lalrpop_norm_theory.specs.Symbols.{Name, reference}
 use Rattle.lalrpop_norm_theory.specs.WrittenTrees.{WrittenTree}
@@ -25,6 +25,6 @@ module _ (fs : Features) (g : GrammarData) (P : ProductionTable) (is_rule : Name
 
   pub lowered_pairs : (t : WrittenTree) (u : LoweredTree) → lower_faults is_rule P most_steps t ≡ [] → u ≡ lowered_root P most_steps t → IsPairedIn fs g t u
   lowered_pairs t u none same =
-      let (n, is, h) = (fit.lowers t).0 none in
+      let (n, is, h) = (fit.written t).0 (sym (fit.lowers t) ∙ none) in
       let pairs = (fit.lowered t n is h).1 in
       (n, (are n).0 is, subst (λ (v : LoweredTree). Pairs (written_meaning fs g) (written_name fs g) (reference n None) t v) (sym same) pairs)

@@ -30,7 +30,7 @@ no_first : (fs : List Found) (f : Found) → fs ≡ [] → first_found fs ≡ So
 no_first fs f none first = let e = sym (ap first_found none) ∙ first in absurd (cc e)
 
 -- what trees see of a written grammar has levels
-pub levels : (fs : Features) (g : GrammarData) → HasLevels (written_meaning fs g)
+levels : (fs : Features) (g : GrammarData) → HasLevels (written_meaning fs g)
 levels fs g = meaning_has_levels _ (written_rules fs g)
 
 module _ (s : Settings) (g : GrammarData) (traced : Traced) (lowers : IsLowered s g (grammar_in traced))
@@ -67,6 +67,6 @@ module _ (s : Settings) (g : GrammarData) (traced : Traced) (lowers : IsLowered 
     lowers = lowers;
     begins = is_root traced;
     begins_at_rules = are;
-    first = subst (λ (P : ProductionTable). first_found (lower_faults (is_root traced) P most_steps t) ≡ Some (fault, path.items)) same first;
+    first = sym (ap first_found (fit.lowers t)) ∙ first;
   }
   lowering_stops t no_memory first = tt

@@ -3,3 +3,4 @@ pub mod Witnesses
 pub mod Answers
 pub mod Stops
 pub mod Refusals
+pub mod Runs

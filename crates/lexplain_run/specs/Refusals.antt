@@ -9,13 +9,12 @@ use Rattle.lalrpop_norm_theory.specs.LoweredTrees.{LoweredTree}
 use Rattle.lalrpop_norm_repr.specs.Lowered.{LoweredGrammar}
 use Rattle.lalrpop_norm_explain.specs.declared.errors.ExplainFault.{ExplainFault}
 use Rattle.lalrpop_norm_explain.specs.declared.errors.ExplainError.TheVariants.{Refused as faulty_tree, Memory as no_memory}
-use Rattle.lalrpop_norm_explain.specs.Plans.{most_steps}
 use Rattle.lalrpop_norm_explain.specs.TreeFaults.{explain_faults, first_found}
-use Rattle.lalrpop_norm_explain.specs.TreeLowering.{lower_faults}
+use Rattle.lalrpop_norm_explain.specs.WrittenShapes.{written_faults}
 use Rattle.lalrpop_norm_ambiguity.specs.declared.errors.AmbiguityError.{AmbiguityError}
 use Rattle.lalrpop_norm_ambiguity.specs.declared.errors.AmbiguityError.TheVariants.{Memory as no_place}
 use Rattle.lalrpop_norm_ambiguity.specs.Findings.{IsFirstFound, findings}
-use Rattle.lalrpop_norm.specs.Faithful.{traced_derivations}
+use Rattle.lalrpop_norm.specs.Faithful.{traced_derivations, written_meaning}
 use Rattle.lalrpop_norm.specs.WayBack.{AreRoots}
 use Rattle.lnorm_run.specs.Settings.{Settings}
 use Rattle.lnorm_run.specs.Answers.{IsFirstFault, IsFormOf, IsLowered, StandsAtPlace, findings_of}
@@ -38,7 +37,8 @@ pub record IsRefusedDerivation (s : Settings) (g : GrammarData) (u : LoweredTree
   pub begins_at_rules : AreRoots s.features g begins
   pub first : first_found (explain_faults begins (traced_derivations s.features g s.limit lowered) u) ≡ Some (fault, path)
 
--- The fault is the first one of the written tree, likewise. No derivation tree corresponds to it.
+-- The grammar has a lowered one. The fault is the first one of the written tree, in terms of the written language, at that
+-- path from its root; trees begin likewise. No derivation tree corresponds to it.
 pub record IsRefusedWritten (s : Settings) (g : GrammarData) (t : WrittenTree) (fault : ExplainFault)
     (path : List ℕ) : Type 0 where
   pub unpaired : (u : LoweredTree) → IsPairedIn s.features g t u → ⊥
@@ -46,8 +46,7 @@ pub record IsRefusedWritten (s : Settings) (g : GrammarData) (t : WrittenTree) (
   pub lowers : IsLowered s g lowered
   pub begins : Name → Bool
   pub begins_at_rules : AreRoots s.features g begins
-  pub first : first_found (lower_faults begins (traced_derivations s.features g s.limit lowered) most_steps t)
-      ≡ Some (fault, path)
+  pub first : first_found (written_faults (written_meaning s.features g) begins t) ≡ Some (fault, path)
 
 -- The error is the first of what is wrong with two derivation trees that are to show an ambiguity, likewise. No two written trees
 -- that show one correspond to them.

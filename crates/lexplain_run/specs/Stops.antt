@@ -1,21 +1,14 @@
 -- How a stop is reported: the exit status, and a line.
-use Rattle.std.specs.Prelude.{◌≡◌, ℕ, List, [], ◌∷◌, ◌++◌, ◌⊎◌, codes, decimal, string_bytes}
+use Rattle.std.specs.Prelude.{ℕ, List, [], ◌∷◌, ◌++◌, codes, decimal, string_bytes}
 use Rattle.lalrpop_norm_faults.specs.declared.failure.NormFailure.TheVariants.{Refused as faulty_grammar, Memory as no_room}
+use Rattle.lalrpop_norm_explain.specs.FaultCodes.{tree_fault_code}
 use Rattle.lalrpop_norm_explain.specs.declared.errors.ExplainFault.{ExplainFault}
-use Rattle.lalrpop_norm_explain.specs.declared.errors.ExplainFault.TheVariants.{Root, Production, Child, Shape}
 use Rattle.lalrpop_norm_explain.specs.declared.errors.ExplainError.TheVariants.{Refused as faulty_tree, Memory as no_memory}
 use Rattle.lalrpop_norm_ambiguity.specs.declared.errors.AmbiguityError.{AmbiguityError}
 use Rattle.lalrpop_norm_ambiguity.specs.declared.errors.AmbiguityError.TheVariants.{First, Second, Rules, Yields, Same, Memory}
-use Rattle.lnorm_streams.specs.Streams.{fault_line}
+use Rattle.lnorm_streams.specs.Streams.{fault_line, lexplain_memory_line, lexplain_no_tree_line}
 use Rattle.lexplain_run.specs.declared.answer.Stop.{Stop}
 use Rattle.lexplain_run.specs.declared.answer.Stop.TheVariants.{NotAGrammar, NotATree, Failed, Tree, Trees}
-
--- the number of a fault of a tree
-abbrev pub tree_code : ExplainFault → List ℕ
-tree_code Root = codes "X1"
-tree_code Production = codes "X2"
-tree_code Child = codes "X3"
-tree_code Shape = codes "X4"
 
 -- each index behind a slash
 abbrev pub places_text : List ℕ → List ℕ
@@ -29,7 +22,7 @@ child_path_text (place ∷ path) = places_text (place ∷ path)
 
 -- the line of a fault of a tree, as `X3 /0/1`
 abbrev pub tree_fault_line : ExplainFault → List ℕ → List ℕ
-tree_fault_line fault path = tree_code fault ++ (codes " " ++ (child_path_text path ++ codes "\n"))
+tree_fault_line fault path = tree_fault_code fault ++ (codes " " ++ (child_path_text path ++ codes "\n"))
 
 -- the line for two trees that show no ambiguity, as `first X3 /0/1` or `X6 4`
 abbrev pub unshown_line : AmbiguityError → List ℕ
@@ -38,7 +31,7 @@ unshown_line (Second fault path) = codes "second " ++ tree_fault_line fault path
 unshown_line Rules = codes "X5\n"
 unshown_line (Yields index) = codes "X6 " ++ (decimal index ++ codes "\n")
 unshown_line Same = codes "X7\n"
-unshown_line Memory = codes "lexplain: out of memory\n"
+unshown_line Memory = lexplain_memory_line
 
 abbrev pub unshown_status : AmbiguityError → ℕ
 unshown_status (First fault path) = 1
@@ -61,12 +54,8 @@ stop_status (Trees e) = unshown_status e
 abbrev pub stop_line : Stop → List ℕ
 stop_line (Failed (faulty_grammar e)) = fault_line e.fault e.span (string_bytes e.message)
 stop_line (Tree (faulty_tree fault path)) = tree_fault_line fault path.items
-stop_line NotAGrammar = codes "lexplain: the file is no tree of a grammar\n"
+stop_line NotAGrammar = lexplain_no_tree_line
 stop_line NotATree = codes "lexplain: the lines are no tree\n"
-stop_line (Failed no_room) = codes "lexplain: out of memory\n"
-stop_line (Tree no_memory) = codes "lexplain: out of memory\n"
+stop_line (Failed no_room) = lexplain_memory_line
+stop_line (Tree no_memory) = lexplain_memory_line
 stop_line (Trees e) = unshown_line e
-
--- the stop is reported by its exit status and its line; or, if an allocation fails for the line, by exit status 3 and no line
-abbrev pub IsToldBy : Stop → ℕ → List ℕ → Type 0
-IsToldBy stop status line = ((status ≡ stop_status stop) × (line ≡ stop_line stop)) ⊎ ((status ≡ 3) × (line ≡ []))

@@ -1,5 +1,5 @@
 //! The answers of the program.
-ghost use Rattle.std.specs.Prelude.{◌≡◌, ◌++◌, ◌⊎◌, ℕ, List, IfOk, IfErr, IsErrOf, OnOk, string_bytes};
+ghost use Rattle.std.specs.Prelude.{◌≡◌, ◌⊎◌, ℕ, List, IfOk, IfErr, IsErrOf, string_bytes};
 ghost use Rattle.lalrpop_norm_tree.specs.Items.{grammar_view};
 ghost use Rattle.lalrpop_norm_faults.specs.declared.failure.NormFailure.TheVariants.{Memory};
 ghost use Rattle.lalrpop_norm_session.specs.Sessions.{features_view};
@@ -8,16 +8,14 @@ ghost use Rattle.lnorm_run.specs.Answers.{IsFormOf};
 ghost use Rattle.lnorm_run.specs.Settings.{Settings};
 ghost use Rattle.lexplain_run.specs.Answers.{ExplainsTree, IsTranslationOver, LowersTree};
 ghost use Rattle.lexplain_run.specs.Refusals.{StopsExplaining, StopsLowering, StopsOver};
+ghost use Rattle.lexplain_run.specs.Runs.{StopsOverBytes};
 ghost use Rattle.lexplain_run.specs.Words.{settings_asked, settings_with};
 ghost use Rattle.lexplain_run.specs.declared.words.Way.{Way};
 ghost use Rattle.lexplain_run.specs.declared.answer.Stop.TheVariants.{NotATree, Failed};
-ghost use Rattle.lexplain_run.specs.Stops.{IsToldBy, child_path_text, places_text, stop_line, stop_status, tree_code, tree_fault_line, unshown_line, unshown_status};
 
 use crate::ambiguous::ambiguous;
 use crate::words::{Asked, Way};
-use lalrpop_norm::explain::{
-    ExplainError, ExplainFault, LoweredTree, WrittenTree, explain, lower_tree,
-};
+use lalrpop_norm::explain::{ExplainError, LoweredTree, WrittenTree, explain, lower_tree};
 use lalrpop_norm::lexer::CheckOnly;
 use lalrpop_norm::normalize::{NormFailure, Session, normalize_traced};
 use lalrpop_norm_ambiguity::AmbiguityError;
@@ -27,7 +25,6 @@ use lexplain_lines::lines::{lowered_lines, written_lines};
 use lexplain_lines::read::{
     LinesError, lowered_tree_of_lines, two_lowered_trees_of_lines, written_tree_of_lines,
 };
-use lnorm_streams::halt::push_fault_line;
 use std::alloc::{AllocError, Global};
 
 /// Why there is no answer.
@@ -114,8 +111,10 @@ pub fn answer(alloc: Global, asked: &Asked, grammar: &str, lines: &str) -> Resul
 }
 
 /// The grammar whose JSON form the text is.
-fn grammar_in(alloc: Global, text: &str) -> Result<Grammar, Stop>
+pub(crate) fn grammar_in(alloc: Global, text: &str) -> Result<Grammar, Stop>
     ensures ok { IfOk result (λ g. IsFormOf (grammar_view g) text.now) }
+    // An error says the same of lines that are any bytes.
+    ensures bytes { IfErr result (λ stop. (way : Way) (s : Settings) (lines : List ℕ) → StopsOverBytes way s text.now lines stop) }
     ensures err { IfErr result (λ stop. (way : Way) (s : Settings) (lines : List ℕ) → StopsOver way s text.now lines stop) }
 {
     match read_tree(alloc, text) {
@@ -170,121 +169,4 @@ pub fn lowered(
     let traced = normalize_traced(alloc, session, grammar)?;
     let derivation = lower_tree(alloc, &traced, tree)?;
     Ok(lowered_lines(alloc, &derivation)?)
-}
-
-/// The line for a fault of a tree: its number, and the indices of children from the root to it.
-pub fn push_fault(text: &mut String, fault: ExplainFault, path: &[usize]) -> Result<(), AllocError>
-    ensures { OnOk result (string_bytes text.new ≡ string_bytes text.old ++ tree_fault_line fault path.now) }
-{
-    text.push_str(code_of(fault))?;
-    text.push_str(" ")?;
-    push_path(text, path)?;
-    text.push_str("\n")
-}
-
-fn code_of(fault: ExplainFault) -> &'static str
-    ensures { result.now ≡ tree_code fault }
-{
-    match fault {
-        ExplainFault::Root => "X1",
-        ExplainFault::Production => "X2",
-        ExplainFault::Child => "X3",
-        ExplainFault::Shape => "X4",
-    }
-}
-
-/// The indices of children, or a slash for the root.
-fn push_path(text: &mut String, path: &[usize]) -> Result<(), AllocError>
-    ensures { OnOk result (string_bytes text.new ≡ string_bytes text.old ++ child_path_text path.now) }
-{
-    if path.is_empty() {
-        text.push_str("/")
-    } else {
-        push_places(text, path)
-    }
-}
-
-#[tactic(auto, using(crate::proofs::StopLemmas::step_places))]
-fn push_places(text: &mut String, path: &[usize]) -> Result<(), AllocError>
-    ensures { OnOk result (string_bytes text.new ≡ string_bytes text.old ++ places_text path.now) }
-{
-    for place in path {
-        write!(text, "/{place}")?;
-    }
-    Ok(())
-}
-
-/// How a stop is reported: the exit status, and a line. If an allocation fails for the line, by exit status 3 and no line.
-pub fn told(alloc: Global, stop: Stop) -> (u8, String)
-    ensures { IsToldBy stop result.0 (string_bytes result.1) }
-{
-    let mut line = String::new(alloc);
-    match push_stop(&mut line, &stop) {
-        Ok(status) => (status, line),
-        Err(_) => (3, String::new(alloc)),
-    }
-}
-
-fn push_stop(line: &mut String, stop: &Stop) -> Result<u8, AllocError>
-    ensures { IfOk result (λ status. (status ≡ stop_status stop.now)
-        × (string_bytes line.new ≡ string_bytes line.old ++ stop_line stop.now)) }
-{
-    match stop {
-        Stop::NotAGrammar => {
-            line.push_str("lexplain: the file is no tree of a grammar\n")?;
-            Ok(2)
-        }
-        Stop::NotATree => {
-            line.push_str("lexplain: the lines are no tree\n")?;
-            Ok(2)
-        }
-        Stop::Failed(NormFailure::Refused(error)) => {
-            push_fault_line(line, error)?;
-            Ok(1)
-        }
-        Stop::Tree(ExplainError::Refused { fault, path }) => {
-            push_fault(line, *fault, path)?;
-            Ok(1)
-        }
-        Stop::Trees(error) => push_unshown(line, error),
-        Stop::Failed(NormFailure::Memory) | Stop::Tree(ExplainError::Memory) => {
-            line.push_str("lexplain: out of memory\n")?;
-            Ok(3)
-        }
-    }
-}
-
-/// The line and the exit status for two trees that show no ambiguity.
-fn push_unshown(line: &mut String, error: &AmbiguityError) -> Result<u8, AllocError>
-    ensures { IfOk result (λ status. (status ≡ unshown_status error.now)
-        × (string_bytes line.new ≡ string_bytes line.old ++ unshown_line error.now)) }
-{
-    match error {
-        AmbiguityError::First { fault, path } => {
-            line.push_str("first ")?;
-            push_fault(line, *fault, path)?;
-            Ok(1)
-        }
-        AmbiguityError::Second { fault, path } => {
-            line.push_str("second ")?;
-            push_fault(line, *fault, path)?;
-            Ok(1)
-        }
-        AmbiguityError::Rules => {
-            line.push_str("X5\n")?;
-            Ok(1)
-        }
-        AmbiguityError::Yields(index) => {
-            write!(line, "X6 {index}\n")?;
-            Ok(1)
-        }
-        AmbiguityError::Same => {
-            line.push_str("X7\n")?;
-            Ok(1)
-        }
-        AmbiguityError::Memory => {
-            line.push_str("lexplain: out of memory\n")?;
-            Ok(3)
-        }
-    }
 }

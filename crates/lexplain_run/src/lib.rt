@@ -3,4 +3,7 @@
 
 pub mod ambiguous;
 pub mod answer;
+pub mod laws;
+pub mod report;
+pub mod run;
 pub mod words;
