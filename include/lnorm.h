@@ -32,7 +32,8 @@ enum {
     /* The grammar, or a derivation tree, has a fault, or two trees show no ambiguity. The line of faults has the error code, and its span
      * or path. */
     LNORM_FAULT = 1,
-    /* The arguments are no options, or the input is no tree; the line of faults says which. */
+    /* The arguments are no options, the input is no tree of a grammar, or the lines are those of no derivation tree, or no two; the line
+     * of faults says which. */
     LNORM_REFUSED = 2,
     /* An allocation failed, or a pattern of the grammar is past the size that a regular expression may have; the line of faults is
      * "lnorm: out of memory\n". */
@@ -83,8 +84,10 @@ struct lnorm_answer lnorm_whole(
  * grammar  a tree in JSON.
  * lines    the derivation tree, before inlining, in lines of JSON (docs/use/FORMATS.md).
  * output   the tree of the grammar as it was written, in such lines.
- * faults   a line that says why there is none: a fault of the grammar, as above; or of the tree, as "X3 /0/1\n" (docs/use/FAULTS.md); or
- *          that the arguments or the input are wrong. */
+ * faults   a line that says why there is none. With LNORM_FAULT it is a fault of the grammar, as above, or the first fault of the tree,
+ *          as "X3 /0/1\n" (docs/use/FAULTS.md); with LNORM_REFUSED the first of these that holds:
+ *          "lexplain: words: [--limit N] [--feature F]...\n", if the arguments are no options;
+ *          "lexplain: the file is no tree of a grammar\n"; "lexplain: the lines are no tree\n". What is not UTF-8 is neither. */
 struct lnorm_answer lnorm_explain(
     const char *words, size_t words_size,
     const char *grammar, size_t grammar_size,
@@ -112,8 +115,9 @@ struct lnorm_answer lnorm_ambiguous(
  * no lnorm_ambiguous. */
 uint32_t lnorm_form_version(void);
 
-/* The toolchain that the library was proved and built with. Its line, without a line feed, is put into the buffer, as much as there is room
- * for; the answer is the size of the whole line. */
+/* The toolchain that the sources are proved with, as its `rt version` names it: a constant of the sources, also where a library was built
+ * by another one. Its line, without a line feed, is put into the buffer, as much as there is room for; the answer is the size of the
+ * whole line. */
 size_t lnorm_toolchain(char *line, size_t room);
 
 #ifdef __cplusplus

@@ -1,20 +1,22 @@
--- What an explained tree, or two, say of the grammar's bytes.
-use Rattle.std.proofs.Common.{◌++◌, ℕ, List, String, Global, string_bytes, IfOk, Ok, Err, Result}
-use Rattle.lalrpop_norm_tree.specs.Items.{GrammarData}
-use Rattle.lalrpop_norm_theory.specs.LoweredTrees.{LoweredTree}
-use Rattle.lalrpop_norm_model.specs.Features.{Features}
-use Rattle.lnorm_run.specs.Answers.{IsFormOf}
-use Rattle.lexplain_lines.specs.LineForms.{AreLines, lowered_forms}
-use Rattle.lexplain_run.specs.Answers.{ExplainsTree, ShowsAmbiguity}
+-- What a call over trees says of the bytes that are its arguments.
+use Rattle.std.proofs.Common.{◌≡◌, ℕ, List, [], ◌∷◌, Some, false, refl, sym, subst, ◌∙◌, IfOk, Result}
+use Rattle.std.proofs.lemmas.Result.{IfOk-weaker}
+use mathlib.Core.List.{append_cancel_right}
+use Rattle.lnorm_run.specs.Settings.{Settings, settings_of}
+use Rattle.lexplain_run.specs.Words.{settings_asked}
+use Rattle.lexplain_run.specs.declared.words.Asked.{Asked}
+use Rattle.lexplain_run.specs.declared.words.Way.{Way}
+use Rattle.lnorm_c.specs.Words.{AreWords}
+use Rattle.lnorm_c.specs.Calls.{AsksForNoTrees, AsksForTrees}
 
-pub explained_of : {E : Type 0} (r : Result (String Global) E) (fs : Features) (bytes lines : List ℕ) (g : GrammarData) (u : LoweredTree) →
-    IsFormOf g bytes → AreLines lines (lowered_forms u) → IfOk r (λ text. ExplainsTree fs g u (string_bytes text)) →
-    IfOk r (λ text. (tree : GrammarData) × IsFormOf tree bytes × (derivation : LoweredTree) × AreLines lines (lowered_forms derivation) × ExplainsTree fs tree derivation (string_bytes text))
-explained_of (Ok text) fs bytes lines g u form are h = (g, form, u, are, h)
-explained_of (Err e) fs bytes lines g u form are h = h
+-- a text is no other arguments
+pub asks_for_no_trees : (text : List ℕ) (ws : List (List ℕ)) → AreWords text ws →
+    ((s : Settings) → settings_of ws ≡ Some s → s.origins ≡ false → ⊥) → AsksForNoTrees text
+asks_for_no_trees text ws are none = λ s asks.
+    let same : asks.asked.list ≡ ws = append_cancel_right asks.asked.list ws ([] ∷ []) (sym asks.asked.stand.parts ∙ are.parts) in
+    none s (subst (λ x. settings_of x ≡ Some s) same asks.asked.are) asks.plain
 
-pub shown_of : {E : Type 0} (r : Result (String Global) E) (fs : Features) (bytes lines : List ℕ) (g : GrammarData) (u v : LoweredTree) →
-    IsFormOf g bytes → AreLines lines (lowered_forms u ++ lowered_forms v) → IfOk r (λ text. ShowsAmbiguity fs g u v (string_bytes text)) →
-    IfOk r (λ text. (tree : GrammarData) × IsFormOf tree bytes × (first : LoweredTree) × (second : LoweredTree) × AreLines lines (lowered_forms first ++ lowered_forms second) × ShowsAmbiguity fs tree first second (string_bytes text))
-shown_of (Ok text) fs bytes lines g u v form are h = (g, form, u, v, are, h)
-shown_of (Err e) fs bytes lines g u v form are h = h
+pub asks_for_trees : {E : Type 0} (r : Result Asked E) (way : Way) (text : List ℕ) (ws : List (List ℕ)) → AreWords text ws →
+    IfOk r (λ a. (a.way ≡ way) × (settings_of ws ≡ Some (settings_asked a))) → IfOk r (λ a. (a.way ≡ way) × AsksForTrees text (settings_asked a))
+asks_for_trees r way text ws are h =
+    IfOk-weaker r _ _ (λ a k. (k.0, record { asked = record { list = ws; stand = are; are = k.1 }; plain = refl })) h

@@ -6,6 +6,6 @@ use Rattle.std.specs.Prelude.{ℕ, List, codes}
 abbrev pub form_version : ℕ
 form_version = 2
 
--- the toolchain that the library is proved and built with
+-- the toolchain that the sources are proved with: their constant, also where a library was built by another one
 unfoldable pub toolchain_line : List ℕ
 toolchain_line = codes "rattle-kit-13f logic dac8208d650f15bf"

@@ -1,24 +1,13 @@
 //! Ambiguities of a grammar as it was written, over bytes.
-ghost use Rattle.std.specs.Prelude.{◌≡◌, ◌≤◌, ◌<◌, ◌++◌, ℕ, List, [], IfOk, string_bytes};
-ghost use Rattle.lalrpop_norm_tree.specs.Items.{GrammarData};
-ghost use Rattle.lalrpop_norm_theory.specs.LoweredTrees.{LoweredTree as DerivationTree};
-ghost use Rattle.lalrpop_norm_session.specs.Sessions.{features_view};
-ghost use Rattle.lalrpop_norm_explain.specs.Trees.{lowered_view};
-ghost use Rattle.lnorm_run.specs.Answers.{IsFormOf};
-ghost use Rattle.lexplain_lines.specs.LineForms.{AreLines, lowered_forms};
-ghost use Rattle.lexplain_run.specs.Answers.{ShowsAmbiguity};
+ghost use Rattle.std.specs.Prelude.{◌≡◌, ◌≤◌, ◌<◌, ◌⊎◌, ℕ, List, []};
 ghost use Rattle.lnorm_streams.specs.Streams.{memory_line};
 ghost use Rattle.lnorm_buffers.specs.Buffers.{Takes};
-ghost use Rattle.lnorm_c.specs.Calls.{IsShownAmbiguousFor};
+ghost use Rattle.lexplain_run.specs.declared.words.Way.TheVariants.{Ambiguous};
+ghost use Rattle.lnorm_c.specs.Calls.{AsksForNoTrees, IsShownAmbiguousFor, IsStoppedFor, words_line};
 
-use crate::trees::{grammar_in, refused, session_in, stopped};
-use lalrpop_norm::explain::LoweredTree;
-use lalrpop_norm::lexer::CheckOnly;
-use lalrpop_norm::normalize::{NormFailure, Session};
-use lexplain_lines::read::{LinesError, two_lowered_trees_of_lines};
-use lexplain_run::ambiguous::ambiguous;
-use lexplain_run::answer::Stop;
-use lnorm_buffers::answer::{Ended, LnormAnswer, told};
+use crate::trees::translated;
+use lexplain_run::words::Way;
+use lnorm_buffers::answer::{LnormAnswer, told};
 use std::alloc::Global;
 
 /// What `lexplain ambiguous` does, over bytes: from two derivation trees of a lowered grammar to two trees of the grammar as it was
@@ -45,60 +34,18 @@ pub extern "C" fn lnorm_ambiguous(
         × IsShownAmbiguousFor words.now grammar.now lines.now text
         × Takes output.old output.new text result.output_size
         × Takes faults.old faults.new [] result.faults_size }
+    // Rejected: the line is that of a fault of the grammar that may be reported, or of the first that is wrong with the two trees.
+    ensures fault { result.status ≡ 1 → (line : List ℕ)
+        × IsStoppedFor Ambiguous words.now grammar.now lines.now 1 line
+        × Takes faults.old faults.new line result.faults_size }
+    // The arguments are rejected, or the bytes are the form of no tree, or the lines are those of no two: the line says which.
+    ensures refused { result.status ≡ 2 → (line : List ℕ)
+        × (AsksForNoTrees words.now × (line ≡ words_line) ⊎ IsStoppedFor Ambiguous words.now grammar.now lines.now 2 line)
+        × Takes faults.old faults.new line result.faults_size }
     ensures memory { result.status ≡ 3 → Takes faults.old faults.new memory_line result.faults_size }
     ensures quiet { 0 < result.status → Takes output.old output.new [] result.output_size }
     ensures status { result.status ≤ 3 }
 {
-    let ended = ambiguous_ended(alloc, words, grammar, lines);
+    let ended = translated(alloc, Way::Ambiguous, words, grammar, lines);
     told(&ended, output, faults)
-}
-
-/// What the engine comes to.
-fn ambiguous_ended(alloc: Global, words: &[u8], grammar: &[u8], lines: &[u8]) -> Ended
-    ensures done { result.status ≡ 0 → IsShownAmbiguousFor words.now grammar.now lines.now result.output.items
-        × (result.faults.items ≡ []) }
-    ensures quiet { 0 < result.status → result.output.items ≡ [] }
-{
-    match session_in(alloc, words) {
-        Ok(session) => match ambiguous_lines(alloc, &session, grammar, lines) {
-            Ok(text) => Ended {
-                status: 0,
-                output: text.into_bytes(),
-                faults: Vec::new(alloc),
-            },
-            Err(stop) => stopped(alloc, stop),
-        },
-        Err(error) => refused(alloc, error),
-    }
-}
-
-/// The lines of two written trees, and of the path to where they differ.
-fn ambiguous_lines(
-    alloc: Global,
-    session: &Session<CheckOnly>,
-    grammar: &[u8],
-    lines: &[u8],
-) -> Result<String, Stop>
-    ensures { IfOk result (λ text. (tree : GrammarData) × IsFormOf tree grammar.now
-        × (first : DerivationTree) × (second : DerivationTree)
-        × AreLines lines.now (lowered_forms first ++ lowered_forms second)
-        × ShowsAmbiguity (features_view session.now.features) tree first second (string_bytes text)) }
-{
-    let grammar = grammar_in(alloc, grammar)?;
-    let (first, second) = derivations_in(alloc, lines)?;
-    ambiguous(alloc, session, grammar, &first, &second)
-}
-
-/// The two derivation trees that the lines make.
-fn derivations_in(alloc: Global, bytes: &[u8]) -> Result<(LoweredTree, LoweredTree), Stop>
-    ensures { IfOk result (λ two. AreLines bytes.now (lowered_forms (lowered_view two.0) ++ lowered_forms (lowered_view two.1))) }
-{
-    let Ok(text) = str::from_utf8(bytes) else {
-        return Err(Stop::NotATree);
-    };
-    match two_lowered_trees_of_lines(alloc, text) {
-        Ok(trees) => Ok(trees),
-        Err(LinesError::NotATree) => Err(Stop::NotATree),
-        Err(LinesError::Memory) => Err(Stop::Failed(NormFailure::Memory)),
-    }
 }

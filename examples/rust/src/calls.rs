@@ -168,7 +168,7 @@ pub fn form_version() -> u32 {
     unsafe { lnorm_form_version() }
 }
 
-/// The toolchain that the library was proved and built with.
+/// The toolchain that the sources are proved with: a constant of the sources, whatever built the library.
 pub fn toolchain() -> String {
     let mut line = vec![0; 256];
     // SAFETY: the pointer and the size are those of one slice, which is borrowed mutably for the call.

@@ -1,9 +1,0 @@
-use Rattle.lalrpop_norm_tree.specs.Items.{grammar_view}
-use Rattle.lalrpop_norm_session.specs.Sessions.{features_view}
-use Rattle.lalrpop_norm_explain.specs.Trees.{lowered_view}
-use Rattle.lnorm_c.proofs.ExplainLemmas.{explained_of}
-use Rattle.lnorm_c.proofs.explain.explained_lines.Goals as goal
-
-pub returns : goal.returns
-returns c = explained_of c.explained.result (features_view c.args.session.now.features) c.args.grammar.now c.args.lines.now (grammar_view c.in_ok-grammar.grammar)
-    (lowered_view c.in_ok-tree.tree) c.in_ok-grammar.ensures c.in_ok-tree.ensures c.explained.ensures.ok
