@@ -2,7 +2,7 @@
 //! statement is in `specs/Laws.antt`, of maps in `specs/Maps.antt`, of the way back in `specs/WayBack.antt`.
 ghost use Rattle.lalrpop_norm.specs.Laws.{CapIsExact, ConditionsHaveOneValue, FaultsAreByRound, LevelsSettleMacros, LoweredTreesAreFaithful, NamesAreOwn, WordsAreEqual};
 ghost use Rattle.lalrpop_norm.specs.Laws.{EachClassHasOneRule, ListsAreActionOrigins, ResolvedGrammarsAreSettled, SharedNamesStandExactly};
-ghost use Rattle.lalrpop_norm.specs.Maps.{PatternsCompose, BoundsCompose};
+ghost use Rattle.lalrpop_norm.specs.Maps.{PatternsCompose, PatternKindsCompose, FieldPatternsCompose, BoundsCompose, BoundParametersCompose};
 ghost use Rattle.lalrpop_norm.specs.WayBack.{LevelsAreNarrow, RulesAreAmbiguousExactly, TracedCallsFit, TracedCallFitsAnywhere};
 
 /// The trees of what an expanded grammar is lowered to, once it has its tokens, correspond one to one to the written trees,
@@ -130,6 +130,32 @@ pub fn patterns_map_by_composition<
     ensures { PatternsCompose F.FnMut G.FnMut H.FnMut }
 {}
 
+/// A pattern kind that is mapped twice is what it is mapped to by a closure that answers with the composition of the two.
+pub fn pattern_kinds_map_by_composition<
+    T,
+    U,
+    V,
+    E,
+    F: FnMut(&T) -> Result<U, E>,
+    G: FnMut(&U) -> Result<V, E>,
+    H: FnMut(&T) -> Result<V, E>,
+>()
+    ensures { PatternKindsCompose F.FnMut G.FnMut H.FnMut }
+{}
+
+/// A field pattern that is mapped twice is what it is mapped to by a closure that answers with the composition of the two.
+pub fn field_patterns_map_by_composition<
+    T,
+    U,
+    V,
+    E,
+    F: FnMut(&T) -> Result<U, E>,
+    G: FnMut(&U) -> Result<V, E>,
+    H: FnMut(&T) -> Result<V, E>,
+>()
+    ensures { FieldPatternsCompose F.FnMut G.FnMut H.FnMut }
+{}
+
 /// A type bound that is mapped twice is what it is mapped to by a closure that answers with the composition of the two.
 pub fn bounds_map_by_composition<
     T,
@@ -141,4 +167,17 @@ pub fn bounds_map_by_composition<
     H: FnMut(&T) -> Result<V, E>,
 >()
     ensures { BoundsCompose F.FnMut G.FnMut H.FnMut }
+{}
+
+/// A parameter of a type bound that is mapped twice is what it is mapped to by a closure that answers with the composition of the two.
+pub fn bound_parameters_map_by_composition<
+    T,
+    U,
+    V,
+    E,
+    F: FnMut(&T) -> Result<U, E>,
+    G: FnMut(&U) -> Result<V, E>,
+    H: FnMut(&T) -> Result<V, E>,
+>()
+    ensures { BoundParametersCompose F.FnMut G.FnMut H.FnMut }
 {}
