@@ -23,7 +23,7 @@ sys.dont_write_bytecode = True
 from wanted_back import NoTree, Refusal, Unshown, explained, lowered_back, readings_lines, shown_lines, tree_of_lines, two_trees_of_lines
 from wanted_cuts import cut_faults, cut_reads, cut_writes
 from wanted_forms import Refused, Unknown, canonical, names_text, one, place, terminal, tree_text, type_text
-from wanted_lowered import Lowered, source_name
+from wanted_lowered import Lowered, origin_word, source_name
 from wanted_patterns import is_found, is_pattern
 from wanted_shapes import beginnings, cut_trees, debug_tree, readings, tree_of
 from wanted_tokens import (KNOWN_ATTRIBUTES, CheckOnly, NoMemory, Scripted, blocks_of, check_tokens, extern_enum, inner_symbols, is_expanded,
@@ -557,6 +557,21 @@ def counted(tree, limit):
     return "instances %d, rounds %d, texts %d\n" % (rules, rounds, rules)
 
 
+def origins_text(tree):
+    """A line for each rule: the origins of its alternatives."""
+    lists = ([a["origin"] for a in rule["alternatives"]] for rule in rules_of(tree))
+    return "".join("origins:%s\n" % "".join(" [%s]" % origin_word(o) for o in origins) for origins in lists)
+
+
+def expanded_traced(tree, features, limit, whole):
+    """The tree of `expand_macros` after `remove_disabled_decls`, and the origins of its alternatives."""
+    mark_origins(tree)
+    remove_disabled(tree, features)
+    run_pass("expand_macros", tree, features, limit)
+    origins = origins_text(tree)
+    return (debug_tree(tree) if whole else tree_text(tree)) + origins
+
+
 def lowered_alone(tree, features):
     """What `lower` makes of a tree whose names are resolved; types are those of all conversions, terminals of the active ones."""
     types_text(tree)
@@ -611,7 +626,8 @@ def counts_of(data):
 PASSES = ("read", "validate", "check_globals", "remove_disabled_decls", "resolve", "expand_levels", "expand_precedence",
           "expand_macros", "token_check")
 LAST = ("token_check_scripted", "infer_types", "normalize", "lowered_copy", "copy", "lower", "is_typed", "ask", "texts",
-        "normalize_scripted", "without_memory", "expand_macros_counted", "malformed_cfgs", "traced")
+        "normalize_scripted", "without_memory", "expand_macros_counted", "expand_macros_traced",
+        "malformed_cfgs", "traced")
 BACK = ("explain", "explain_at", "lower_tree", "there_and_back", "ambiguous")
 
 
@@ -663,6 +679,8 @@ def passes_answer(data, call, words):
         return text if last == "infer_types" else "typed: %s\n" % str(is_typed(tree, features)).lower()
     if last == "malformed_cfgs":
         return "malformed:%s\n" % "".join(" " + p for p in malformed_cfgs(tree))
+    if last == "expand_macros_traced":
+        return expanded_traced(tree, features, limit, whole)
     if last in ("ask", "texts"):
         return asked(tree, features) if last == "ask" else texts_of(tree)
     told = counted(tree, limit) if last == "expand_macros_counted" else ""

@@ -14,6 +14,11 @@ ORIGINS = {"start": ("start", "Start"), "step": ("step", "LevelStep"), "group": 
            "none": ("empty", "QuestionEmpty"), "times": ("times", "Times"), "@L": ("@L", "Lookahead"), "@R": ("@R", "Lookbehind")}
 
 
+def origin_word(origin):
+    """What `lnorm --origins` prints of an origin, between the brackets."""
+    return "%s %d" % origin if isinstance(origin, tuple) else ORIGINS[origin][0]
+
+
 # ---- the form of types, patterns and clauses
 
 def path_data(value):
@@ -305,7 +310,7 @@ class Lowered:
     def marked(self, name):
         """The productions of a nonterminal, each with its origin in a word."""
         for (line, _), (_, origin) in zip(self.found[name][3], self.sources[name]):
-            yield line, "%s %d" % origin if isinstance(origin, tuple) else ORIGINS[origin][0]
+            yield line, origin_word(origin)
 
     def traced(self):
         """The nonterminals, with what is kept beside them for the way back."""

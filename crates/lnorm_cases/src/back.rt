@@ -15,7 +15,8 @@ use lexplain_lines::read::{
     LinesError, lowered_tree_of_lines, two_lowered_trees_of_lines, written_tree_of_lines,
 };
 use lexplain_run::ambiguous::ambiguous;
-use lexplain_run::answer::{Stop, push_fault, told};
+use lexplain_run::answer::Stop;
+use lexplain_run::report::report_stop;
 use lnorm_run::lines::push_origin;
 use lnorm_run::words::{WordsError, asked_by};
 use lnorm_texts::text::Text;
@@ -129,18 +130,25 @@ fn push_stop(alloc: Global, text: &mut Text, stop: Stop) {
         Stop::NotAGrammar => text.put("not a tree\n"),
         Stop::NotATree => text.put("no tree beside it\n"),
         Stop::Failed(failure) => push_place(text, &failure),
-        Stop::Tree(ExplainError::Refused { fault, path }) => push_apart(alloc, text, |text| {
-            push_fault(text, fault, &path)
-        }),
-        Stop::Tree(ExplainError::Memory) => text.put("memory\n"),
-        Stop::Trees(error) => {
-            let (status, line) = told(alloc, Stop::Trees(error));
-            text.put(if status == 3 {
-                "memory\n"
-            } else {
-                line.as_str()
-            });
-        }
+        Stop::Tree(error) => push_report(alloc, text, Stop::Tree(error)),
+        Stop::Trees(error) => push_report(alloc, text, Stop::Trees(error)),
+    }
+}
+
+/// The line by which a stop is reported, but for a failed allocation.
+fn push_report(alloc: Global, text: &mut Text, stop: Stop) {
+    let mut line = Vec::new(alloc);
+    match report_stop(stop, &mut line) {
+        3 => text.put("memory\n"),
+        _ => push_line(text, &line),
+    }
+}
+
+/// The line. It has no end if an allocation failed for a part of it.
+fn push_line(text: &mut Text, bytes: &[u8]) {
+    match str::from_utf8(bytes) {
+        Ok(line) if line.ends_with("\n") => text.put(line),
+        _ => text.lack(),
     }
 }
 

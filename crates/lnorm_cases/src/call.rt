@@ -94,6 +94,8 @@ pub(crate) enum Last {
     NormalizeScripted,
     /// `expand_macros_counted`: how much it did, and the tree.
     ExpandMacrosCounted,
+    /// `remove_disabled_decls` and `expand_macros_traced`: the tree, and the origins of its alternatives.
+    ExpandMacrosTraced,
     /// `infer_types`: the table of types.
     InferTypes,
     /// `is_typed`: whether `lower` takes that table.
@@ -164,6 +166,7 @@ fn last_of(name: &str) -> Option<Last> {
         "token_check_scripted" => Some(Last::TokenCheckScripted),
         "normalize_scripted" => Some(Last::NormalizeScripted),
         "expand_macros_counted" => Some(Last::ExpandMacrosCounted),
+        "expand_macros_traced" => Some(Last::ExpandMacrosTraced),
         "infer_types" => Some(Last::InferTypes),
         "is_typed" => Some(Last::IsTyped),
         "lower" => Some(Last::Lower),

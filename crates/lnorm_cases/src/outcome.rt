@@ -3,8 +3,8 @@ use crate::asks::push_asked;
 use crate::back::push_traced;
 use crate::call::{Last, Pass};
 use crate::lowered::{push_lowered, push_lowered_copy};
-use crate::passes::{Stopped, is_run, tree_after, tree_after_all, typed};
-use crate::shown::{ended, push_or, push_or_memory};
+use crate::passes::{Stopped, expanded_with_origins, is_run, tree_after, tree_after_all, typed};
+use crate::shown::{ended, push_apart, push_or, push_or_memory};
 use crate::without_memory::push_without_memory;
 use lalrpop_norm::grammar::repr;
 use lalrpop_norm::normalize::lower::{is_typed, lower};
@@ -15,8 +15,10 @@ use lalrpop_norm::normalize::{
 use lalrpop_norm_json::{TreeError, read_tree};
 use lalrpop_norm_lexer::lexer::Lexer;
 use lalrpop_norm_macro_expand::macro_expand::{Counts, expand_macros_counted};
+use lalrpop_norm_origins::Origin;
 use lalrpop_norm_repr::grammar::repr::Types;
 use lalrpop_norm_tree::grammar::parse_tree::{Grammar, Span};
+use lnorm_run::lines::push_origin;
 use lnorm_texts::faults::push_told;
 use lnorm_texts::print::symbols::{push_span, push_span_line};
 use lnorm_texts::print::tables::{push_types, push_whole_types};
@@ -114,6 +116,7 @@ fn push_last<L: Lexer>(
         Last::Pass(pass) => push_pass(alloc, text, session, layout, pass, tree),
         Last::TokenCheckScripted => push_pass(alloc, text, session, layout, Pass::TokenCheck, tree),
         Last::ExpandMacrosCounted => push_counted(alloc, text, session, layout, tree),
+        Last::ExpandMacrosTraced => push_expanded(alloc, text, session, layout, tree),
         Last::InferTypes | Last::IsTyped => push_typed(alloc, text, session, layout, last, tree),
         Last::Lower => push_lower(alloc, text, session, layout, tree),
         Last::Normalize | Last::NormalizeScripted | Last::LoweredCopy => {
@@ -204,6 +207,34 @@ fn push_counts(text: &mut Text, layout: Layout, made: &(Grammar, Counts)) {
     text.show(counts.texts);
     text.put("\n");
     push_tree_as(text, layout, tree);
+}
+
+/// The tree after an expansion, and a line for each rule: the origins of its alternatives.
+fn push_expanded<L>(
+    alloc: Global,
+    text: &mut Text,
+    session: &Session<L>,
+    layout: Layout,
+    tree: Grammar,
+) {
+    let made = expanded_with_origins(alloc, session, tree);
+    push_result_of(text, layout, made, |text, made| {
+        let (tree, lists) = made;
+        push_tree_as(text, layout, tree);
+        for list in lists {
+            push_origins(alloc, text, list);
+        }
+    });
+}
+
+fn push_origins(alloc: Global, text: &mut Text, origins: &Vec<Origin>) {
+    text.put("origins:");
+    for origin in origins {
+        text.put(" [");
+        push_apart(alloc, text, |text| push_origin(text, origin));
+        text.put("]");
+    }
+    text.put("\n");
 }
 
 /// The types of the tree's rules, once its names are resolved, or whether it is typed by them.

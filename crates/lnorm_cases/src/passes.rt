@@ -12,8 +12,11 @@ use lalrpop_norm::normalize::prevalidate::validate;
 use lalrpop_norm::normalize::resolve::{check_globals, resolve};
 use lalrpop_norm::normalize::{NormFailure, NormResult, Session, is_expanded, token_check};
 use lalrpop_norm_lexer::lexer::Lexer;
+use lalrpop_norm_macro_expand::expand_macros_traced;
 use lalrpop_norm_macro_expand::macro_expand::expand_macros;
+use lalrpop_norm_origins::Origin;
 use lalrpop_norm_precedence::precedence::expand_levels;
+use lalrpop_norm_prevalidate::cond_comp::remove_disabled_traced;
 use lalrpop_norm_repr::grammar::repr::Types;
 use lalrpop_norm_tree::grammar::parse_tree::Grammar;
 use lalrpop_norm_tyinfer::tyinfer::infer_types;
@@ -87,6 +90,16 @@ fn validated(alloc: Global, tree: Grammar) -> NormResult<Grammar> {
 fn with_checked_globals(alloc: Global, tree: Grammar) -> NormResult<Grammar> {
     let done = check_globals(alloc, &tree);
     kept(tree, done)
+}
+
+/// The tree that the session's features leave, expanded, and the origins of its alternatives: one list for each rule.
+pub(crate) fn expanded_with_origins<L>(
+    alloc: Global,
+    session: &Session<L>,
+    tree: Grammar,
+) -> NormResult<(Grammar, Vec<Vec<Origin>>)> {
+    let (enabled, origins) = remove_disabled_traced(alloc, session, tree)?;
+    expand_macros_traced(alloc, enabled, session.macro_recursion_limit, origins)
 }
 
 /// The tree with its names resolved, and the types of its rules.
