@@ -1,9 +1,13 @@
-"""Random trees: derivation trees of a grammar that wanted.py lowered, in the form of wanted_back.py, and such a tree with one node spoilt;
-and trees of grammars as no parser makes them.
+"""Random trees: derivation trees of a grammar that wanted.py lowered, in the form of wanted_back.py, such a tree with one node spoilt, and
+the lines of one, damaged; and trees of grammars as no parser makes them.
 """
 import copy
+import re
 
 DEEP = 5
+PIECES = (b"", b"\xff", b"\xc3", b" ", b'"', b"}", b"\\", b"0", b"\n")
+NUMBER = re.compile(rb"(?<=:)[0-9]+")
+NUMBERS = (b"0", b"1", b"2", b"9", b"01", b"-1", b"-0", b"1.0", b"1e0", b"18446744073709551615", b"18446744073709551616", b'"1"', b"null")
 # Fields that have the same type in every object, and symbols that are put at odd positions.
 FIELDS = ("kind", "type_decl", "action", "condition", "visibility", "attributes", "alternatives", "symbols", "span", "type_parameters",
           "where_clauses", "parameters", "from", "to")
@@ -38,16 +42,16 @@ def grown(sources, found, chance, name, left):
     return ("node", name, place, children)
 
 
-def derivation(lowered, chance):
-    """A derivation tree of a written rule, or none where no rule has one."""
+def derivation(lowered, chance, root=None):
+    """A derivation tree of a written rule, or of that one, or none where no rule has one."""
     found = heights(lowered.sources)
-    names = sorted(name for name in lowered.roots if name in found)
+    names = sorted(name for name in lowered.roots if name in found and root in (None, name))
     return grown(lowered.sources, found, chance, chance.choice(names), DEEP) if names else None
 
 
 def spoilt(tree, chance):
     """The tree with one of its parts changed: another number or name, a child less, another terminal, or one part in the place of another."""
-    if tree[0] in ("node", "list") and tree[-1] and chance.random() < 0.8:
+    if tree[0] in ("node", "list") and tree[-1] and chance.random() < 0.7:
         children = list(tree[-1])
         place = chance.randrange(len(children))
         children[place] = spoilt(children[place], chance)
@@ -59,6 +63,33 @@ def spoilt(tree, chance):
     if tree[0] == "list":
         changes += [("list", tree[1][:-1]), ("list", tree[1] * 2)]
     return chance.choice(changes)
+
+
+# ---- of lines
+
+def damaged(lines, chance):
+    """Lines with one change: of bytes, of a line, of a number, or one that a reader of JSON allows."""
+    rows = lines.split(b"\n")[:-1]
+    place = chance.randrange(len(rows))
+    row, kind = rows[place], chance.randrange(8)
+    at = chance.randrange(len(row))
+    if kind == 0:
+        rows[place] = row[:at] + chance.choice(PIECES) + row[at + chance.randrange(2):]
+    elif kind == 1:
+        del rows[place]
+    elif kind == 2:
+        rows.insert(place, chance.choice((row, b"", b"\"Nothing\"", b'{"List":0}', b'{"Leaf":"Error"}', b"null", b"[]")))
+    elif kind == 3:
+        rows[place] = NUMBER.sub(chance.choice(NUMBERS), row)
+    elif kind == 4:
+        rows[place] = chance.choice((b" %s\t", b"%s\r", b"\xef\xbb\xbf%s", b"[%s]", b"%s,", b"%s%s")).replace(b"%s", row)
+    elif kind == 5:
+        rows[place] = chance.choice((row.replace(b"{", b"{ ", 1), row.replace(b":", b" : "), row.replace(b"e", b"\\u0065")))
+    elif kind == 6:
+        rows[place] = b'{"Leaf":' + b"[" * chance.choice((1, 126, 127, 5000)) + row
+    else:
+        return lines[:-1] if chance.random() < 0.5 else lines[:chance.randrange(len(lines))]
+    return b"".join(row + b"\n" for row in rows)
 
 
 # ---- of grammars
