@@ -1,7 +1,6 @@
 pub mod Back
 pub mod BoundForms
 pub mod ClauseBack
-pub mod Fields
 pub mod LineFeed
 pub mod Ordered
 pub mod OrderedClauses
@@ -10,7 +9,6 @@ pub mod OrderedWhole
 pub mod PatternBack
 pub mod PatternKinds
 pub mod RowsBack
-pub mod Steps
 pub mod TextBack
 pub mod Texts
 pub mod ThreeFirst

@@ -115,19 +115,8 @@ lowered_ordered g =
     & tt & clauses & tt
 
 origin_ordered : (o : theory.Origin) → IsOrdered (origin_form o)
-origin_ordered theory.from_start = tt
 origin_ordered (theory.written n k) = refl & (refl & tt & tt & tt) & tt
-origin_ordered theory.level_step = tt
-origin_ordered theory.from_group = tt
-origin_ordered theory.star_empty = tt
-origin_ordered theory.star_some = tt
-origin_ordered theory.plus_one = tt
-origin_ordered theory.plus_more = tt
-origin_ordered theory.question_some = tt
-origin_ordered theory.question_empty = tt
-origin_ordered theory.from_times = tt
-origin_ordered theory.from_lookahead = tt
-origin_ordered theory.from_lookbehind = tt
+origin_ordered _ = tt
 
 pub whole_ordered : (os : Option (List theory.Origin)) (g : LoweredGrammar) → IsOrdered (whole_form os g)
 whole_ordered os g =

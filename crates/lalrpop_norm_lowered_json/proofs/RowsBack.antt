@@ -3,7 +3,7 @@ use Rattle.std.proofs.Common.{◌≡◌, List, [], ◌∷◌, ap₂}
 use Rattle.serde_json.specs.Data.{Data, null, array, no_items, item}
 use Rattle.lalrpop_norm_json.specs.Json.{row}
 use Rattle.lalrpop_norm_json.proofs.ListBack.{list_in, list_back}
-use Rattle.lalrpop_norm_lowered_json.specs.WholeForms.{rows_form}
+use Rattle.lalrpop_norm_lowered_json_tables.specs.TableForms.{rows_form}
 
 -- a row of a table
 abbrev pub pair_in : {K V : Type 0} → (Data → K) → (Data → V) → Data → K × V

@@ -5,7 +5,7 @@ use Rattle.json.specs.Print.{print}
 use Rattle.serde_json.specs.Data.{Data}
 use Rattle.serde_json.specs.Written.{compact_text}
 use Rattle.serde_json.proofs.Texts.{print-outline}
-use Rattle.lalrpop_norm_lowered_json.specs.Written.{data_tokens}
+use Rattle.lalrpop_norm_lowered_json_tables.specs.Written.{data_tokens}
 
 pub printed : (d : Data) (items before : List ℕ) (old new : List Token) → items ≡ before ++ print new → before ≡ [] → new ≡ old ++ data_tokens d → old ≡ []
     → items ≡ compact_text d

@@ -7,7 +7,7 @@ use Rattle.lalrpop_norm_tree_parts.specs.declared.attribute.Attribute.{Attribute
 use Rattle.lalrpop_norm_tree_parts.specs.declared.attribute.AttributeArg.TheFolds.{fold_out-Attribute}
 use Rattle.lalrpop_norm_tree_parts.specs.Attributes.{Argument, AttributeData, attribute, argument_step, attribute_step, argument_view, attribute_view}
 use Rattle.lalrpop_norm_json.specs.Json.{list_form, row}
-use Rattle.lalrpop_norm_lowered_json.specs.Written.{data_tokens}
+use Rattle.lalrpop_norm_lowered_json_tables.specs.Written.{data_tokens}
 
 pub attribute_is : (a : Attribute) → attribute_view a ≡ attribute a.id_span a.id (argument_view a.arg)
 attribute_is a = fold_out-Attribute Argument AttributeData argument_step attribute_step a

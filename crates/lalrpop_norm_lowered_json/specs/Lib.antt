@@ -1,5 +1,3 @@
-pub mod Written
 pub mod LoweredForms
 pub mod WholeForms
 pub mod Laws
-pub mod Fields

@@ -7,34 +7,21 @@ use Rattle.lalrpop_norm_tree.specs.Items.{InternTokenData}
 use Rattle.lalrpop_norm_tree_parts.specs.declared.lowered.Algorithm.{Algorithm}
 use Rattle.lalrpop_norm_tree_parts.specs.declared.lowered.LrCodeGeneration.{LrCodeGeneration}
 use Rattle.lalrpop_norm_tree_parts.specs.declared.lowered.LrCodeGeneration.TheVariants.{TableDriven, RecursiveAscent, TestAll}
-use Rattle.lalrpop_norm_repr.specs.declared.symbol.Symbol.{Symbol}
-use Rattle.lalrpop_norm_repr.specs.declared.symbol.Symbol.TheVariants.{Nonterminal, Terminal}
-use Rattle.lalrpop_norm_repr.specs.declared.action.ActionFn.{ActionFn}
 use Rattle.lalrpop_norm_repr.specs.declared.action.LookaroundActionFnDefn.{LookaroundActionFnDefn}
 use Rattle.lalrpop_norm_repr.specs.declared.action.LookaroundActionFnDefn.TheVariants.{Lookahead, Lookbehind}
-use Rattle.lalrpop_norm_repr.specs.Actions.{ActionData, ActionKindData, ArgumentData, action_index, original, inlined, user}
+use Rattle.lalrpop_norm_repr.specs.Actions.{ActionData, ActionKindData, ArgumentData, original, inlined, user}
 use Rattle.lalrpop_norm_repr.specs.Actions.{inline, lookaround}
 use Rattle.lalrpop_norm_repr.specs.Productions.{ProductionData, EntryData}
 use Rattle.lalrpop_norm_repr.specs.Tables.{TypeTable}
-use Rattle.lalrpop_norm_repr.specs.Lowered.{LoweredParameter, TerminalTable, LoweredGrammar}
+use Rattle.lalrpop_norm_repr.specs.Lowered.{LoweredParameter, LoweredGrammar}
 use Rattle.lalrpop_norm_json.specs.Json.{fields, variant, row, natural, maybe_form, list_form}
 use Rattle.lalrpop_norm_json.specs.Forms.{span_form, nonterminal_form, literal_form, terminal_form, type_parameter_form, attributes_form}
 use Rattle.lalrpop_norm_json.specs.SymbolForms.{argument_pattern_form}
 use Rattle.lalrpop_norm_json.specs.ItemForms.{visibility_form, mapping_form}
+pub use Rattle.lalrpop_norm_lowered_json_tables.specs.TableForms.{rows_form, symbol_form, action_number_form, terminals_form, origin_form}
 use Rattle.lalrpop_norm_lowered_json.specs.LoweredForms.{repr_form, lowered_clause_form, lowered_pattern_form}
 
--- a table: a list of pairs, in the order of its keys
-abbrev pub rows_form : {K V : Type 0} → (K → Data) → (V → Data) → List (K × V) → Data
-rows_form f g = list_form (λ r. row (f r.0 ∷ g r.1 ∷ []))
-
 -- ---- productions and actions
-
-abbrev pub symbol_form : Symbol → Data
-symbol_form (Nonterminal n) = variant (codes "Nonterminal") (nonterminal_form n)
-symbol_form (Terminal t) = variant (codes "Terminal") (terminal_form t)
-
-abbrev pub action_number_form : ActionFn → Data
-action_number_form a = natural (action_index a)
 
 abbrev pub production_form : ProductionData → Data
 production_form p =
@@ -90,10 +77,6 @@ intern_token_form t =
 
 -- ---- tables, parameters
 
-abbrev pub terminals_form : TerminalTable → Data
-terminals_form s =
-    fields ((codes "all", list_form terminal_form s.all) ∷ (codes "bits", rows_form terminal_form natural s.bits) ∷ [])
-
 abbrev pub type_table_form : TypeTable → Data
 type_table_form t =
     fields ((codes "error_recovery_type", repr_form t.recovery) ∷ (codes "error_type", maybe_form repr_form t.error)
@@ -127,22 +110,6 @@ lowered_form g =
     ∷ (codes "types", type_table_form g.types) ∷ (codes "uses", list_form string g.uses)
     ∷ (codes "uses_error_recovery", boolean g.uses_error_recovery)
     ∷ (codes "where_clauses", list_form lowered_clause_form g.where_clauses) ∷ [])
-
-abbrev pub origin_form : theory.Origin → Data
-origin_form theory.from_start = string (codes "Start")
-origin_form (theory.written n k) =
-    variant (codes "Written") (fields ((codes "alternative", natural k) ∷ (codes "rule", string n) ∷ []))
-origin_form theory.level_step = string (codes "LevelStep")
-origin_form theory.from_group = string (codes "Group")
-origin_form theory.star_empty = string (codes "StarEmpty")
-origin_form theory.star_some = string (codes "StarSome")
-origin_form theory.plus_one = string (codes "PlusOne")
-origin_form theory.plus_more = string (codes "PlusMore")
-origin_form theory.question_some = string (codes "QuestionSome")
-origin_form theory.question_empty = string (codes "QuestionEmpty")
-origin_form theory.from_times = string (codes "Times")
-origin_form theory.from_lookahead = string (codes "Lookahead")
-origin_form theory.from_lookbehind = string (codes "Lookbehind")
 
 -- a lowered grammar, and the origins of its actions by their numbers, if they are asked for
 abbrev pub whole_form : Option (List theory.Origin) → LoweredGrammar → Data

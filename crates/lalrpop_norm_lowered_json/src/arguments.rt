@@ -3,10 +3,11 @@ ghost use Rattle.std.specs.Prelude.{◌≡◌};
 ghost use Rattle.lalrpop_norm_tree.specs.Symbols.{argument_pattern_view, argument_patterns_view, tuple_view};
 ghost use Rattle.lalrpop_norm_json.specs.SymbolForms.{argument_pattern_form, argument_patterns_form, name_form, tuple_form};
 ghost use Rattle.serde_json.specs.Data.{array};
-ghost use Rattle.lalrpop_norm_lowered_json.specs.Written.{Puts};
+ghost use Rattle.lalrpop_norm_lowered_json_tables.specs.Written.{Puts};
 
-use crate::put::{Form, Puts, begin_variant, put_field};
+use crate::put::Form;
 use json::Writer;
+use lalrpop_norm_lowered_json_tables::put::{Plain, Puts, begin_variant, put_field, put_variant};
 use lalrpop_norm_tree::grammar::parse_tree::{ArgPattern, Atom, Name, Tuple};
 use std::alloc::AllocError;
 
@@ -15,8 +16,8 @@ impl Puts<Name> for Form {
 
     fn put(out: &mut Writer, value: &Name) -> Result<(), AllocError> {
         out.begin_object()?;
-        put_field::<bool, Form>(out, "mutable", &value.mutable)?;
-        put_field::<Atom, Form>(out, "name", &value.name)?;
+        put_field::<bool, Plain>(out, "mutable", &value.mutable)?;
+        put_field::<Atom, Plain>(out, "name", &value.name)?;
         out.end_object()
     }
 }
@@ -34,11 +35,7 @@ fn put_argument_pattern(out: &mut Writer, pattern: &ArgPattern) -> Result<(), Al
     ensures { Puts result out.old out.new (argument_pattern_form (argument_pattern_view pattern.now)) }
 {
     match pattern {
-        ArgPattern::Name(name) => {
-            begin_variant(out, "Name")?;
-            <Form as Puts<Name>>::put(out, name)?;
-            out.end_object()
-        }
+        ArgPattern::Name(name) => put_variant::<Name, Form>(out, "Name", name),
         ArgPattern::Tuple(tuple) => {
             begin_variant(out, "Tuple")?;
             put_tuple(out, tuple)?;

@@ -3,10 +3,11 @@ ghost use Rattle.std.specs.Prelude.{◌≡◌};
 ghost use Rattle.serde_json.specs.Data.{array};
 ghost use Rattle.lalrpop_norm_tree_parts.specs.Attributes.{attribute_view, attributes_view, argument_view};
 ghost use Rattle.lalrpop_norm_json.specs.Forms.{attribute_form, attributes_form, argument_form};
-ghost use Rattle.lalrpop_norm_lowered_json.specs.Written.{Puts};
+ghost use Rattle.lalrpop_norm_lowered_json_tables.specs.Written.{Puts};
 
-use crate::put::{Form, Puts, begin_variant, put_field, put_maybe};
+use crate::put::{Form, put_maybe};
 use json::Writer;
+use lalrpop_norm_lowered_json_tables::put::{Plain, Puts, begin_variant, put_field, put_variant};
 use lalrpop_norm_tree::grammar::parse_tree::{
     Atom, Attribute, AttributeArg, Path, Span, Visibility,
 };
@@ -27,7 +28,7 @@ fn put_attribute(out: &mut Writer, attribute: &Attribute) -> Result<(), AllocErr
     out.begin_object()?;
     out.key("arg")?;
     put_argument(out, &attribute.arg)?;
-    put_field::<Atom, Form>(out, "id", &attribute.id)?;
+    put_field::<Atom, Plain>(out, "id", &attribute.id)?;
     put_field::<Span, Form>(out, "id_span", &attribute.id_span)?;
     out.end_object()
 }
@@ -43,11 +44,7 @@ fn put_argument(out: &mut Writer, argument: &AttributeArg) -> Result<(), AllocEr
             put_attributes(out, attributes)?;
             out.end_object()
         }
-        AttributeArg::Equal(text) => {
-            begin_variant(out, "Equal")?;
-            out.string(text.as_str())?;
-            out.end_object()
-        }
+        AttributeArg::Equal(text) => put_variant::<String, Plain>(out, "Equal", text),
     }
 }
 
@@ -78,11 +75,7 @@ impl Puts<Visibility> for Form {
                 put_maybe::<_, Form>(out, path)?;
                 out.end_object()
             }
-            Visibility::PubIn(path) => {
-                begin_variant(out, "PubIn")?;
-                <Form as Puts<Path>>::put(out, path)?;
-                out.end_object()
-            }
+            Visibility::PubIn(path) => put_variant::<Path, Form>(out, "PubIn", path),
             Visibility::Priv => out.string("Priv"),
         }
     }

@@ -6,16 +6,18 @@ ghost use Rattle.lalrpop_norm_json.specs.Forms.{path_form, type_parameter_form};
 ghost use Rattle.lalrpop_norm_tree_parts.specs.Paths.{path_view};
 ghost use Rattle.lalrpop_norm_tree_parts.specs.Bounds.{bound_view, bound_parameter_view};
 ghost use Rattle.lalrpop_norm_tree_parts.specs.Reprs.{repr_view, lowered_where_clause_view};
-ghost use Rattle.lalrpop_norm_lowered_json.specs.Written.{Puts};
-ghost use Rattle.lalrpop_norm_lowered_json.specs.LoweredForms.{repr_form, lowered_bound_form, lowered_bound_parameter_form, lowered_clause_form};
+ghost use Rattle.lalrpop_norm_lowered_json_tables.specs.Written.{Puts};
+ghost use Rattle.lalrpop_norm_lowered_json.specs.LoweredForms.{repr_form, lowered_bound_form};
+ghost use Rattle.lalrpop_norm_lowered_json.specs.LoweredForms.{lowered_bound_parameter_form, lowered_clause_form};
 
-use crate::names::put_named;
-use crate::put::{Form, Puts, begin_variant, put_field, put_list_field, put_maybe};
+use crate::put::{Form, put_maybe};
 use crate::types::put_type;
-use crate::variants::put_variant;
 use json::Writer;
+use lalrpop_norm_lowered_json_tables::put::{
+    Plain, Puts, begin_variant, put_field, put_list_field, put_variant,
+};
 use lalrpop_norm_repr::grammar::repr::{
-    Parameter, Path, TypeBound, TypeParameter, TypeRepr, WhereClause,
+    Lifetime, Parameter, Path, TypeBound, TypeParameter, TypeRepr, WhereClause,
 };
 use lalrpop_norm_tree::grammar::parse_tree::{Atom, TypeBoundParameter};
 use std::alloc::AllocError;
@@ -28,7 +30,7 @@ impl Puts<Parameter> for Form {
 
     fn put(out: &mut Writer, value: &Parameter) -> Result<(), AllocError> {
         out.begin_object()?;
-        put_field::<Atom, Form>(out, "name", &value.name)?;
+        put_field::<Atom, Plain>(out, "name", &value.name)?;
         put_field::<TypeRepr, Form>(out, "ty", &value.ty)?;
         out.end_object()
     }
@@ -39,7 +41,9 @@ impl Puts<TypeBoundParameter<TypeRepr>> for Form {
 
     fn put(out: &mut Writer, value: &TypeBoundParameter<TypeRepr>) -> Result<(), AllocError> {
         match value {
-            TypeBoundParameter::Lifetime(lifetime) => put_named(out, "Lifetime", &lifetime.0),
+            TypeBoundParameter::Lifetime(lifetime) => put_variant::<Lifetime, Form>(
+                out, "Lifetime", lifetime,
+            ),
             TypeBoundParameter::TypeParameter(ty) => {
                 put_variant::<TypeRepr, Form>(out, "TypeParameter", ty)
             }
@@ -67,7 +71,9 @@ impl Puts<TypeBound<TypeRepr>> for Form {
 
     fn put(out: &mut Writer, value: &TypeBound<TypeRepr>) -> Result<(), AllocError> {
         match value {
-            TypeBound::Lifetime(lifetime) => put_named(out, "Lifetime", &lifetime.0),
+            TypeBound::Lifetime(lifetime) => put_variant::<Lifetime, Form>(
+                out, "Lifetime", lifetime,
+            ),
             TypeBound::Fn {
                 forall,
                 path,
@@ -185,7 +191,8 @@ fn put_bounded(
     bound: &TypeBound<TypeRepr>,
 ) -> Result<(), AllocError>
     ensures { Puts result out.old out.new
-        (fields ((codes "bound", lowered_bound_form (bound_view repr_view bound.now)) ∷ (codes "subject", repr_form (repr_view subject.now)) ∷ [])) }
+        (fields ((codes "bound", lowered_bound_form (bound_view repr_view bound.now))
+        ∷ (codes "subject", repr_form (repr_view subject.now)) ∷ [])) }
 {
     out.begin_object()?;
     put_field::<TypeBound<TypeRepr>, Form>(out, "bound", bound)?;

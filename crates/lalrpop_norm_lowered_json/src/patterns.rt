@@ -6,13 +6,13 @@ ghost use Rattle.lalrpop_norm_json.specs.Forms.{path_form};
 ghost use Rattle.lalrpop_norm_tree_parts.specs.Paths.{path_view};
 ghost use Rattle.lalrpop_norm_tree_parts.specs.Reprs.{repr_view};
 ghost use Rattle.lalrpop_norm_tree_patterns.specs.Patterns.{pattern_view, pattern_kind_view, field_view, patterns_of, fields_of};
-ghost use Rattle.lalrpop_norm_lowered_json.specs.Written.{Puts};
-ghost use Rattle.lalrpop_norm_lowered_json.specs.LoweredForms.{lowered_pattern_form, lowered_pattern_kind_form, lowered_patterns_form, lowered_field_form, lowered_fields_form};
+ghost use Rattle.lalrpop_norm_lowered_json_tables.specs.Written.{Puts};
+ghost use Rattle.lalrpop_norm_lowered_json.specs.LoweredForms.{lowered_pattern_form, lowered_pattern_kind_form, lowered_patterns_form};
+ghost use Rattle.lalrpop_norm_lowered_json.specs.LoweredForms.{lowered_field_form, lowered_fields_form};
 
-use crate::names::put_named;
-use crate::put::{Form, Puts, begin_variant, put_field};
-use crate::variants::put_variant;
+use crate::put::Form;
 use json::Writer;
+use lalrpop_norm_lowered_json_tables::put::{Plain, Puts, begin_variant, put_field, put_variant};
 use lalrpop_norm_repr::grammar::repr::{Path, Span, TypeRepr};
 use lalrpop_norm_tree::grammar::parse_tree::Atom;
 use lalrpop_norm_tree::grammar::pattern::{FieldPattern, Pattern, PatternKind};
@@ -57,20 +57,12 @@ fn put_kind(out: &mut Writer, kind: &PatternKind<TypeRepr>) -> Result<(), AllocE
             out.end_object()
         }
         PatternKind::TupleStruct(path, patterns) => put_called(out, "TupleStruct", path, patterns),
-        PatternKind::Usize(number) => {
-            begin_variant(out, "Usize")?;
-            out.u64(*number as u64)?;
-            out.end_object()
-        }
+        PatternKind::Usize(number) => put_variant::<usize, Plain>(out, "Usize", number),
         PatternKind::Underscore => out.string("Underscore"),
         PatternKind::DotDot => out.string("DotDot"),
         PatternKind::Choose(ty) => put_variant::<TypeRepr, Form>(out, "Choose", ty),
-        PatternKind::CharLiteral(text) => put_named(out, "CharLiteral", text),
-        PatternKind::String(text) => {
-            begin_variant(out, "String")?;
-            out.string(text.as_str())?;
-            out.end_object()
-        }
+        PatternKind::CharLiteral(text) => put_variant::<Atom, Plain>(out, "CharLiteral", text),
+        PatternKind::String(text) => put_variant::<String, Plain>(out, "String", text),
     }
 }
 
@@ -99,7 +91,8 @@ fn put_path_and_patterns(
     patterns: &Vec<Pattern<TypeRepr>>,
 ) -> Result<(), AllocError>
     ensures { Puts result out.old out.new
-        (row (path_form (path_view path.now) ∷ array (lowered_patterns_form (patterns_of (map (pattern_view repr_view) patterns.now.items))) ∷ [])) }
+        (row (path_form (path_view path.now)
+        ∷ array (lowered_patterns_form (patterns_of (map (pattern_view repr_view) patterns.now.items))) ∷ [])) }
 {
     out.begin_array()?;
     <Form as Puts<Path>>::put(out, path)?;
@@ -156,7 +149,7 @@ fn put_field_pattern(out: &mut Writer, field: &FieldPattern<TypeRepr>) -> Result
     ensures { Puts result out.old out.new (lowered_field_form (field_view repr_view field.now)) }
 {
     out.begin_object()?;
-    put_field::<Atom, Form>(out, "field_name", &field.field_name)?;
+    put_field::<Atom, Plain>(out, "field_name", &field.field_name)?;
     put_field::<Span, Form>(out, "field_span", &field.field_span)?;
     out.key("pattern")?;
     put_pattern(out, &field.pattern)?;

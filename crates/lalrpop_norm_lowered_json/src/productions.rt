@@ -2,41 +2,14 @@
 ghost use Rattle.std.specs.Prelude.{◌≡◌};
 
 use crate::attributes::put_attributes;
-use crate::names::put_named;
-use crate::put::{Form, Puts, begin_variant, put_field, put_list_field};
+use crate::put::Form;
 use json::Writer;
+use lalrpop_norm_lowered_json_tables::put::{Plain, Puts, put_field, put_list_field};
 use lalrpop_norm_repr::grammar::repr::{
-    ActionFn, NonterminalData, NonterminalString, Production, Span, Symbol, TerminalString,
+    ActionFn, NonterminalData, NonterminalString, Production, Span, Symbol,
 };
 use lalrpop_norm_tree::grammar::parse_tree::Visibility;
 use std::alloc::AllocError;
-
-impl Puts<Symbol> for Form {
-    ghost use Rattle.lalrpop_norm_lowered_json.specs.WholeForms.{symbol_form};
-
-    ghost form = { symbol_form };
-
-    fn put(out: &mut Writer, value: &Symbol) -> Result<(), AllocError> {
-        match value {
-            Symbol::Nonterminal(name) => put_named(out, "Nonterminal", &name.0),
-            Symbol::Terminal(terminal) => {
-                begin_variant(out, "Terminal")?;
-                <Form as Puts<TerminalString>>::put(out, terminal)?;
-                out.end_object()
-            }
-        }
-    }
-}
-
-impl Puts<ActionFn> for Form {
-    ghost use Rattle.lalrpop_norm_lowered_json.specs.WholeForms.{action_number_form};
-
-    ghost form = { action_number_form };
-
-    fn put(out: &mut Writer, value: &ActionFn) -> Result<(), AllocError> {
-        out.u64(value.index() as u64)
-    }
-}
 
 impl Puts<Production> for Form {
     ghost use Rattle.lalrpop_norm_repr.specs.Productions.{production_view};
@@ -46,10 +19,10 @@ impl Puts<Production> for Form {
 
     fn put(out: &mut Writer, value: &Production) -> Result<(), AllocError> {
         out.begin_object()?;
-        put_field::<ActionFn, Form>(out, "action", &value.action)?;
-        put_field::<NonterminalString, Form>(out, "nonterminal", &value.nonterminal)?;
+        put_field::<ActionFn, Plain>(out, "action", &value.action)?;
+        put_field::<NonterminalString, Plain>(out, "nonterminal", &value.nonterminal)?;
         put_field::<Span, Form>(out, "span", &value.span)?;
-        put_list_field::<Symbol, Form>(out, "symbols", &value.symbols)?;
+        put_list_field::<Symbol, Plain>(out, "symbols", &value.symbols)?;
         out.end_object()
     }
 }

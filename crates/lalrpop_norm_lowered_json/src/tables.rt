@@ -1,63 +1,21 @@
-//! Fields that are tables or options, terminals and types.
+//! The table of types.
 ghost use Rattle.std.specs.Prelude.{◌≡◌, ◌++◌, ◌∷◌, [], OnOk, codes, option_map};
 ghost use Rattle.json.specs.Token.{key};
 ghost use Rattle.lalrpop_norm_tree_parts.specs.Reprs.{repr_view};
 ghost use Rattle.lalrpop_norm_repr.specs.Tables.{type_table};
 ghost use Rattle.lalrpop_norm_json.specs.Json.{maybe_form};
 ghost use Rattle.lalrpop_norm_json.specs.Forms.{nonterminal_form, terminal_form};
-ghost use Rattle.lalrpop_norm_lowered_json.specs.Written.{Puts, data_tokens};
-ghost use Rattle.lalrpop_norm_lowered_json.specs.Fields.{PutsFields};
+ghost use Rattle.lalrpop_norm_lowered_json_tables.specs.Written.{Puts, data_tokens};
+ghost use Rattle.lalrpop_norm_lowered_json_tables.specs.Fields.{PutsFields};
 ghost use Rattle.lalrpop_norm_lowered_json.specs.LoweredForms.{repr_form};
 ghost use Rattle.lalrpop_norm_lowered_json.specs.WholeForms.{rows_form};
 
-use crate::put::{Form, Puts, put_field, put_list_field, put_maybe, put_rows};
+use crate::put::Form;
 use crate::types::put_type;
 use json::Writer;
-use lalrpop_norm_repr::grammar::repr::{
-    NonterminalString, TerminalSet, TerminalString, TypeRepr, Types,
-};
+use lalrpop_norm_lowered_json_tables::put::{Plain, Puts, put_field, put_rows_field};
+use lalrpop_norm_repr::grammar::repr::{NonterminalString, TerminalString, TypeRepr, Types};
 use std::alloc::AllocError;
-use std::collections::BTreeMap;
-
-/// A field that is a table.
-pub fn put_rows_field<N: Ord, V, K: Puts<N>, L: Puts<V>>(
-    out: &mut Writer,
-    name: &str,
-    rows: &BTreeMap<N, V>,
-) -> Result<(), AllocError>
-    ensures ok { OnOk result (out.new.tokens ≡ out.old.tokens ++ key name.now ∷ data_tokens (rows_form K.Puts.form L.Puts.form rows.now.entries)) }
-    ensures before { out.new.before ≡ out.old.before }
-{
-    out.key(name)?;
-    put_rows::<N, V, K, L>(out, rows)
-}
-
-/// A field that may be absent: `null` then.
-pub fn put_maybe_field<T, K: Puts<T>>(
-    out: &mut Writer,
-    name: &str,
-    value: &Option<T>,
-) -> Result<(), AllocError>
-    ensures ok { OnOk result (out.new.tokens ≡ out.old.tokens ++ key name.now ∷ data_tokens (maybe_form K.Puts.form value.now)) }
-    ensures before { out.new.before ≡ out.old.before }
-{
-    out.key(name)?;
-    put_maybe::<T, K>(out, value)
-}
-
-impl Puts<TerminalSet> for Form {
-    ghost use Rattle.lalrpop_norm_repr.specs.Lowered.{terminal_set_view};
-    ghost use Rattle.lalrpop_norm_lowered_json.specs.WholeForms.{terminals_form};
-
-    ghost form = { λ s. terminals_form (terminal_set_view s) };
-
-    fn put(out: &mut Writer, value: &TerminalSet) -> Result<(), AllocError> {
-        out.begin_object()?;
-        put_list_field::<TerminalString, Form>(out, "all", &value.all)?;
-        put_rows_field::<TerminalString, usize, Form, Form>(out, "bits", &value.bits)?;
-        out.end_object()
-    }
-}
 
 impl Puts<Types> for Form {
     ghost use Rattle.lalrpop_norm_lowered_json.specs.WholeForms.{type_table_form};
@@ -80,7 +38,7 @@ fn put_types_to_nonterminals(out: &mut Writer, types: &Types) -> Result<(), Allo
 {
     put_field::<TypeRepr, Form>(out, "error_recovery_type", types.error_recovery_type())?;
     put_maybe_type(out, "error_type", types.opt_error_type())?;
-    put_rows_field::<NonterminalString, TypeRepr, Form, Form>(
+    put_rows_field::<NonterminalString, TypeRepr, Plain, Form>(
         out,
         "nonterminal_types",
         types.nonterminals(),
@@ -97,12 +55,17 @@ fn put_types_from_parse_error(out: &mut Writer, types: &Types) -> Result<(), All
     put_field::<TypeRepr, Form>(out, "parse_error_type", types.parse_error_type())?;
     put_maybe_type(out, "terminal_loc_type", types.opt_terminal_loc_type())?;
     put_field::<TypeRepr, Form>(out, "terminal_token_type", types.terminal_token_type())?;
-    put_rows_field::<TerminalString, TypeRepr, Form, Form>(out, "terminal_types", types.terminals())
+    put_rows_field::<TerminalString, TypeRepr, Plain, Form>(
+        out,
+        "terminal_types",
+        types.terminals(),
+    )
 }
 
 /// A field with a type that may be absent: `null` then.
 fn put_maybe_type(out: &mut Writer, name: &str, ty: Option<&TypeRepr>) -> Result<(), AllocError>
-    ensures ok { OnOk result (out.new.tokens ≡ out.old.tokens ++ key name.now ∷ data_tokens (maybe_form repr_form (option_map (λ t. repr_view t.now) ty.entry))) }
+    ensures ok { OnOk result (out.new.tokens
+        ≡ out.old.tokens ++ key name.now ∷ data_tokens (maybe_form repr_form (option_map (λ t. repr_view t.now) ty.entry))) }
     ensures before { out.new.before ≡ out.old.before }
 {
     out.key(name)?;

@@ -1,8 +1,9 @@
 //! The generated tokenizer.
 ghost use Rattle.std.specs.Prelude.{◌≡◌};
 
-use crate::put::{Form, Puts, begin_variant, put_field, put_list_field};
+use crate::put::Form;
 use json::Writer;
+use lalrpop_norm_lowered_json_tables::put::{Plain, Puts, put_field, put_list_field, put_variant};
 use lalrpop_norm_tree::grammar::parse_tree::{
     Dfa, InternToken, MatchEntry, MatchMapping, TerminalLiteral, TerminalString,
 };
@@ -16,9 +17,7 @@ impl Puts<MatchMapping> for Form {
     fn put(out: &mut Writer, value: &MatchMapping) -> Result<(), AllocError> {
         match value {
             MatchMapping::Terminal(terminal) => {
-                begin_variant(out, "Terminal")?;
-                <Form as Puts<TerminalString>>::put(out, terminal)?;
-                out.end_object()
+                put_variant::<TerminalString, Plain>(out, "Terminal", terminal)
             }
             MatchMapping::Skip => out.string("Skip"),
         }
@@ -32,10 +31,20 @@ impl Puts<MatchEntry> for Form {
 
     fn put(out: &mut Writer, value: &MatchEntry) -> Result<(), AllocError> {
         out.begin_object()?;
-        put_field::<TerminalLiteral, Form>(out, "match_literal", &value.match_literal)?;
-        put_field::<usize, Form>(out, "precedence", &value.precedence)?;
+        put_field::<TerminalLiteral, Plain>(out, "match_literal", &value.match_literal)?;
+        put_field::<usize, Plain>(out, "precedence", &value.precedence)?;
         put_field::<MatchMapping, Form>(out, "user_name", &value.user_name)?;
         out.end_object()
+    }
+}
+
+impl Puts<u32> for Form {
+    ghost use Rattle.lalrpop_norm_json.specs.Json.{natural};
+
+    ghost form = { natural };
+
+    fn put(out: &mut Writer, value: &u32) -> Result<(), AllocError> {
+        out.u64(*value as u64)
     }
 }
 

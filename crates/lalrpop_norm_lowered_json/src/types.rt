@@ -6,12 +6,14 @@ ghost use Rattle.lalrpop_norm_json.specs.Json.{fields, variant, list_form, maybe
 ghost use Rattle.lalrpop_norm_json.specs.Forms.{lifetime_form, path_form, type_parameter_form};
 ghost use Rattle.lalrpop_norm_tree_parts.specs.Paths.{path_view};
 ghost use Rattle.lalrpop_norm_tree_parts.specs.Reprs.{repr_view, reprs_view, applied_view, maybe_repr_of};
-ghost use Rattle.lalrpop_norm_lowered_json.specs.Written.{Puts, data_tokens};
+ghost use Rattle.lalrpop_norm_lowered_json_tables.specs.Written.{Puts, data_tokens};
 ghost use Rattle.lalrpop_norm_lowered_json.specs.LoweredForms.{repr_form, reprs_form, maybe_repr_form, applied_form};
 
-use crate::names::put_named;
-use crate::put::{Form, Puts, begin_variant, put_field, put_list_field, put_maybe};
+use crate::put::{Form, put_maybe};
 use json::Writer;
+use lalrpop_norm_lowered_json_tables::put::{
+    Plain, Puts, begin_variant, put_field, put_list_field, put_variant,
+};
 use lalrpop_norm_repr::grammar::repr::{Lifetime, NominalTypeRepr, Path, TypeParameter, TypeRepr};
 use lalrpop_norm_tree::grammar::parse_tree::Atom;
 use std::alloc::AllocError;
@@ -42,7 +44,7 @@ pub(crate) fn put_type(out: &mut Writer, ty: &TypeRepr) -> Result<(), AllocError
         }
         TypeRepr::Nominal(nominal) => put_applied(out, "Nominal", nominal),
         TypeRepr::Associated { type_parameter, id } => put_associated(out, type_parameter, id),
-        TypeRepr::Lifetime(lifetime) => put_named(out, "Lifetime", &lifetime.0),
+        TypeRepr::Lifetime(lifetime) => put_variant::<Lifetime, Form>(out, "Lifetime", lifetime),
         TypeRepr::Ref {
             lifetime,
             mutable,
@@ -72,8 +74,8 @@ fn put_associated(out: &mut Writer, type_parameter: &Atom, id: &Atom) -> Result<
 {
     begin_variant(out, "Associated")?;
     out.begin_object()?;
-    put_field::<Atom, Form>(out, "id", id)?;
-    put_field::<Atom, Form>(out, "type_parameter", type_parameter)?;
+    put_field::<Atom, Plain>(out, "id", id)?;
+    put_field::<Atom, Plain>(out, "type_parameter", type_parameter)?;
     out.end_object()?;
     out.end_object()
 }
@@ -125,7 +127,8 @@ fn begin_function(
 /// A field that is a list of types.
 #[cycle(types)]
 fn put_types_field(out: &mut Writer, name: &str, types: &Vec<TypeRepr>) -> Result<(), AllocError>
-    ensures ok { OnOk result (out.new.tokens ≡ out.old.tokens ++ key name.now ∷ data_tokens (array (reprs_form (reprs_view types.now.items)))) }
+    ensures ok { OnOk result (out.new.tokens
+        ≡ out.old.tokens ++ key name.now ∷ data_tokens (array (reprs_form (reprs_view types.now.items)))) }
     ensures before { out.new.before ≡ out.old.before }
 {
     out.key(name)?;

@@ -1,7 +1,7 @@
 use Rattle.std.proofs.Common.{◌≡◌, ◌++◌, drop}
 use Rattle.lalrpop_norm_tree.specs.Symbols.{argument_patterns_view}
 use Rattle.lalrpop_norm_json.specs.SymbolForms.{argument_patterns_form}
-use Rattle.lalrpop_norm_lowered_json.specs.Written.{items_left}
+use Rattle.lalrpop_norm_lowered_json_tables.specs.Written.{items_left}
 use Rattle.lalrpop_norm_lowered_json.proofs.arguments.+arguments.Given as goal
 
 -- what is written, and what the patterns that are left will add

@@ -1,8 +1,8 @@
 use Rattle.std.proofs.Common.{◌++◌, ap, sym, ◌∙◌}
 use Rattle.std.proofs.lemmas.Result.{on_ok_weaker}
 use Rattle.lalrpop_norm_json.specs.Forms.{attribute_form}
-use Rattle.lalrpop_norm_lowered_json.specs.Written.{data_tokens}
-use Rattle.lalrpop_norm_lowered_json.proofs.Steps.{back}
+use Rattle.lalrpop_norm_lowered_json_tables.specs.Written.{data_tokens}
+use Rattle.lalrpop_norm_lowered_json_tables.proofs.Steps.{back}
 use Rattle.lalrpop_norm_lowered_json.proofs.Views.{attribute_is}
 use Rattle.lalrpop_norm_lowered_json.proofs.attributes.+attribute.Goals as goal
 

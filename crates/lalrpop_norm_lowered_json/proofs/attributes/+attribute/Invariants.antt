@@ -1,7 +1,7 @@
 use Rattle.std.proofs.Common.{◌≡◌, ◌++◌, drop}
 use Rattle.lalrpop_norm_tree_parts.specs.Attributes.{attributes_view}
 use Rattle.lalrpop_norm_json.specs.Forms.{attributes_form}
-use Rattle.lalrpop_norm_lowered_json.specs.Written.{items_left}
+use Rattle.lalrpop_norm_lowered_json_tables.specs.Written.{items_left}
 use Rattle.lalrpop_norm_lowered_json.proofs.attributes.+attribute.Given as goal
 
 -- what is written, and what the attributes that are left will add

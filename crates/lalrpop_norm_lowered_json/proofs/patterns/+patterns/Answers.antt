@@ -2,7 +2,7 @@ use Rattle.std.proofs.Common.{◌∙◌}
 use Rattle.std.proofs.lemmas.Result.{on_ok_weaker}
 use Rattle.lalrpop_norm_tree_parts.specs.Reprs.{repr_view}
 use Rattle.lalrpop_norm_lowered_json.proofs.PatternKinds.{field_is, tuple_struct_seen, number_seen, text_seen}
-use Rattle.lalrpop_norm_lowered_json.proofs.Steps.{back}
+use Rattle.lalrpop_norm_lowered_json_tables.proofs.Steps.{back}
 use Rattle.lalrpop_norm_lowered_json.proofs.patterns.+patterns.Goals as goal
 
 pub put_kind-returns-in-TupleStruct : goal.put_kind-returns-in-TupleStruct
@@ -10,25 +10,15 @@ put_kind-returns-in-TupleStruct t c =
     rw (c.in-TupleStruct.is, tuple_struct_seen repr_view c.in-TupleStruct.path c.in-TupleStruct.patterns)
     record { ok = c.put_called-in-TupleStruct.ensures.ok; before = c.put_called-in-TupleStruct.ensures.before }
 
-pub put_kind-returns-in_ok-u64-in-Usize : goal.put_kind-returns-in_ok-u64-in-Usize
-put_kind-returns-in_ok-u64-in-Usize t c =
+pub put_kind-returns-in-Usize : goal.put_kind-returns-in-Usize
+put_kind-returns-in-Usize t c =
     rw (c.in-Usize.is, number_seen repr_view c.in-Usize.number)
-    record {
-      ok = on_ok_weaker c.end_object-in-Usize.result (λ e. back c.args.out.now.tokens c.begin_variant-in-Usize.new.out.tokens _ _ _
-          c.in_ok-begin_variant-in-Usize.ensures.ok (back c.begin_variant-in-Usize.new.out.tokens c.u64.new.self.tokens _ _ _
-          c.in_ok-u64-in-Usize.ensures.ok e)) c.end_object-in-Usize.ensures.ok;
-      before = c.end_object-in-Usize.ensures.room.0 ∙ c.u64.ensures.room.0 ∙ c.begin_variant-in-Usize.ensures.before;
-    }
+    record { ok = c.put_variant-in-Usize.ensures.ok; before = c.put_variant-in-Usize.ensures.before }
 
-pub put_kind-returns-in_ok-string-in-String : goal.put_kind-returns-in_ok-string-in-String
-put_kind-returns-in_ok-string-in-String t c =
-    rw (c.in-String.is, text_seen repr_view c.in-String.text, ← c.as_str.ensures.value)
-    record {
-      ok = on_ok_weaker c.end_object-in-String.result (λ e. back c.args.out.now.tokens c.begin_variant-in-String.new.out.tokens _ _ _
-          c.in_ok-begin_variant-in-String.ensures.ok (back c.begin_variant-in-String.new.out.tokens c.string-in-String.new.self.tokens _ _ _
-          c.in_ok-string-in-String.ensures.ok e)) c.end_object-in-String.ensures.ok;
-      before = c.end_object-in-String.ensures.room.0 ∙ c.string-in-String.ensures.room.0 ∙ c.begin_variant-in-String.ensures.before;
-    }
+pub put_kind-returns-in-String : goal.put_kind-returns-in-String
+put_kind-returns-in-String t c =
+    rw (c.in-String.is, text_seen repr_view c.in-String.text)
+    record { ok = c.put_variant-in-String.ensures.ok; before = c.put_variant-in-String.ensures.before }
 
 pub put_field_pattern-returns : goal.put_field_pattern-returns
 put_field_pattern-returns t c =

@@ -1,7 +1,7 @@
 use Rattle.std.proofs.Common.{◌≡◌, ◌++◌, drop, map}
 use Rattle.lalrpop_norm_tree_parts.specs.Reprs.{repr_view}
 use Rattle.lalrpop_norm_tree_patterns.specs.Patterns.{pattern_view, field_view, patterns_of, fields_of}
-use Rattle.lalrpop_norm_lowered_json.specs.Written.{items_left}
+use Rattle.lalrpop_norm_lowered_json_tables.specs.Written.{items_left}
 use Rattle.lalrpop_norm_lowered_json.specs.LoweredForms.{lowered_patterns_form, lowered_fields_form}
 use Rattle.lalrpop_norm_lowered_json.proofs.patterns.+patterns.Given as goal
 

@@ -3,10 +3,10 @@ use Rattle.std.proofs.lemmas.Result.{on_ok_weaker}
 use Rattle.lalrpop_norm_tree_parts.specs.Reprs.{repr_view}
 use Rattle.lalrpop_norm_json.specs.Json.{maybe_form}
 use Rattle.lalrpop_norm_json.specs.Forms.{nonterminal_form}
-use Rattle.lalrpop_norm_lowered_json.specs.Written.{data_tokens}
+use Rattle.lalrpop_norm_lowered_json_tables.specs.Written.{data_tokens}
 use Rattle.lalrpop_norm_lowered_json.specs.LoweredForms.{repr_form}
 use Rattle.lalrpop_norm_lowered_json.specs.WholeForms.{rows_form}
-use Rattle.lalrpop_norm_lowered_json.proofs.Fields.{field, rows_seen}
+use Rattle.lalrpop_norm_lowered_json_tables.proofs.Fields.{field, rows_seen}
 use Rattle.lalrpop_norm_lowered_json.proofs.tables.put_types_to_nonterminals.Goals as goal
 
 pub returns : goal.returns

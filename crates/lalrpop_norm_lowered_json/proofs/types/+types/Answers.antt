@@ -2,7 +2,7 @@ use Rattle.std.proofs.Common.{◌∙◌}
 use Rattle.std.proofs.lemmas.Result.{on_ok_weaker}
 use Rattle.lalrpop_norm_tree_parts.proofs.ReprSeen.{associated_seen, reference_seen, object_seen, function_seen}
 use Rattle.lalrpop_norm_tree_parts.proofs.ReprViews.{view_nominal}
-use Rattle.lalrpop_norm_lowered_json.proofs.Steps.{back}
+use Rattle.lalrpop_norm_lowered_json_tables.proofs.Steps.{back}
 use Rattle.lalrpop_norm_lowered_json.proofs.ThreeFirst.{three_back}
 use Rattle.lalrpop_norm_lowered_json.proofs.types.+types.Goals as goal
 

@@ -1,6 +1,6 @@
 use Rattle.std.proofs.Common.{◌≡◌, ◌++◌, drop}
 use Rattle.lalrpop_norm_tree_parts.specs.Reprs.{reprs_view}
-use Rattle.lalrpop_norm_lowered_json.specs.Written.{items_left}
+use Rattle.lalrpop_norm_lowered_json_tables.specs.Written.{items_left}
 use Rattle.lalrpop_norm_lowered_json.specs.LoweredForms.{reprs_form}
 use Rattle.lalrpop_norm_lowered_json.proofs.types.+types.Given as goal
 

@@ -7,7 +7,7 @@ use Rattle.lalrpop_norm_repr.specs.Actions.{action_defn_view}
 use Rattle.lalrpop_norm_json.specs.Forms.{terminal_form}
 use Rattle.lalrpop_norm_lowered_json.specs.LoweredForms.{lowered_pattern_form}
 use Rattle.lalrpop_norm_lowered_json.specs.WholeForms.{action_defn_form, intern_token_form}
-use Rattle.lalrpop_norm_lowered_json.proofs.Fields.{field, list_seen, maybe_seen, rows_seen}
+use Rattle.lalrpop_norm_lowered_json_tables.proofs.Fields.{field, list_seen, maybe_seen, rows_seen}
 use Rattle.lalrpop_norm_lowered_json.proofs.whole.put_to_intern_token.Goals as goal
 
 pub returns : goal.returns

@@ -5,7 +5,7 @@ use Rattle.lalrpop_norm_repr.specs.Lowered.{lowered_parameter_view}
 use Rattle.lalrpop_norm_repr.specs.Productions.{nonterminal_data_view}
 use Rattle.lalrpop_norm_json.specs.Forms.{nonterminal_form}
 use Rattle.lalrpop_norm_lowered_json.specs.WholeForms.{entry_form, lowered_parameter_form}
-use Rattle.lalrpop_norm_lowered_json.proofs.Fields.{field, list_seen, rows_seen}
+use Rattle.lalrpop_norm_lowered_json_tables.proofs.Fields.{field, list_seen, rows_seen}
 use Rattle.lalrpop_norm_lowered_json.proofs.whole.put_to_prefix.Goals as goal
 
 pub returns : goal.returns

@@ -1,6 +1,6 @@
 use Rattle.std.proofs.Common.{refl, ◌∙◌}
 use Rattle.std.proofs.lemmas.Result.{on_ok_weaker}
-use Rattle.lalrpop_norm_lowered_json.proofs.Fields.{field}
+use Rattle.lalrpop_norm_lowered_json_tables.proofs.Fields.{field}
 use Rattle.lalrpop_norm_lowered_json.proofs.whole.put_to_types.Goals as goal
 
 pub returns : goal.returns

@@ -1,10 +1,10 @@
 use Rattle.std.proofs.Common.{◌∙◌}
 use Rattle.std.proofs.lemmas.Result.{on_ok_weaker}
-use Rattle.lalrpop_norm_lowered_json.proofs.Steps.{back}
+use Rattle.lalrpop_norm_lowered_json_tables.proofs.Steps.{back}
 use Rattle.lalrpop_norm_lowered_json.proofs.bounds.FormPutsTypeBoundParameterTypeRepr.put.Goals as goal
 
 pub returns-in-TypeParameter : goal.returns-in-TypeParameter
-returns-in-TypeParameter c = rw (c.in-TypeParameter.is) record { ok = c.put_variant.ensures.ok; before = c.put_variant.ensures.before }
+returns-in-TypeParameter c = rw (c.in-TypeParameter.is) record { ok = c.put_variant-in-TypeParameter.ensures.ok; before = c.put_variant-in-TypeParameter.ensures.before }
 
 pub returns-in_ok-put_named_type-in-Associated : goal.returns-in_ok-put_named_type-in-Associated
 returns-in_ok-put_named_type-in-Associated c =

@@ -1,6 +1,6 @@
 use Rattle.std.proofs.Common.{◌∙◌}
 use Rattle.std.proofs.lemmas.Result.{on_ok_weaker}
-use Rattle.lalrpop_norm_lowered_json.proofs.Steps.{back}
+use Rattle.lalrpop_norm_lowered_json_tables.proofs.Steps.{back}
 use Rattle.lalrpop_norm_lowered_json.proofs.BoundForms.{function_bound_form, trait_bound_form}
 use Rattle.lalrpop_norm_lowered_json.proofs.bounds.FormPutsTypeBoundTypeRepr.put.Goals as goal
 

@@ -1,7 +1,7 @@
 use Rattle.std.proofs.Common.{◌∙◌, ◌∷◌, []}
 use Rattle.std.proofs.lemmas.Result.{on_ok_weaker}
 use Rattle.json.specs.Token.{end_object}
-use Rattle.lalrpop_norm_lowered_json.proofs.Steps.{back}
+use Rattle.lalrpop_norm_lowered_json_tables.proofs.Steps.{back}
 use Rattle.lalrpop_norm_lowered_json.proofs.tables.FormPutsTypes.put.Goals as goal
 
 pub returns : goal.returns
