@@ -1,4 +1,5 @@
 pub mod Symbols
+pub mod Traversal
 pub mod Types
 pub mod Items
 pub mod SymbolTexts
