@@ -1,25 +1,23 @@
 -- What types and inference see of internal tokens: their entries, and not their automaton.
-use Rattle.std.proofs.Common.{◌≡◌, ℕ, zero, suc, List, [], ◌∷◌, ◌++◌, length, map, filter, flat_map, Option, Some, None, option_map, option_and_then, unwrap_or, codes, is_none, refl, ap, sym, ◌∙◌}
+use Rattle.std.proofs.Common.{◌≡◌, ℕ, zero, suc, List, [], ◌∷◌, ◌++◌, length, map, filter, flat_map, Option, Some, None, option_map, option_and_then, unwrap_or, codes, is_none, refl, ap, ap₂, sym, ◌∙◌}
 use Rattle.lalrpop_norm_tree_names.specs.declared.names.TerminalString.{TerminalString}
 use Rattle.lalrpop_norm_tree_names.specs.declared.names.TerminalString.TheVariants.{Error}
 use Rattle.lalrpop_norm_tree_parts.specs.Accessors.{path_of}
 use Rattle.lalrpop_norm_tree.specs.Accessors.{or_else, first_of, enum_token_of, extern_token_of, intern_token_of, type_named}
 use Rattle.lalrpop_norm_tree.specs.Items.{AlternativeData, RuleData, AssociatedTypeData, EnumTokenData, ExternTokenData, InternTokenData, ItemData, GrammarData, intern_item}
 use Rattle.lalrpop_norm_tree.specs.LoweredTypes.{repr_of}
-use Rattle.lalrpop_norm_tree_parts.specs.Paths.{PathData}
 use Rattle.lalrpop_norm_tree_parts.specs.Reprs as lowered
 use Rattle.lalrpop_norm_tree_parts.specs.Reprs.{ReprData, unit_type, static_str}
-use Rattle.lalrpop_norm_tree.specs.Symbols.{Kind, Part, group, ambiguous_id, terminal, nonterminal, call, repeated, chosen, named, tupled, lookahead, lookbehind, error_terminal, at}
-use Rattle.lalrpop_norm_tree.specs.Types.{TypeData, TypesData, MaybeType, tuple, slice, nominal, reference, trait_object, of_lifetime, id, of_symbol, function, no_types, type_and, no_type, returns}
 use Rattle.lalrpop_norm_model.specs.PlainRules.{all_rules, rule_of_item}
 use Rattle.lalrpop_norm_model.specs.Entries.{user_names}
 use Rattle.lalrpop_norm_model.specs.TerminalTypes.{input_str, extern_enum, first_extern, declared_under, named_with, named_terminals, location_with, declared_location, token_with, token_type, error_type, recovery_type, rows_with, terminal_rows, row_of, terminal_type}
-use Rattle.lalrpop_norm_model.specs.TypeRelation.{associated_in, associated_of, TypeClause, makes, locates, alternative_clause, type_clauses}
-use Rattle.lalrpop_norm_model.specs.TypeTables.{Table, kind_value, part_value, path_value, both, type_value, types_value, return_value, clause_value}
+use Rattle.lalrpop_norm_model.specs.TypeRelation.{TypeClause, makes, locates, alternative_clause, type_clauses}
+use Rattle.lalrpop_norm_model.specs.TypeTables.{Table, grammar_types, type_meant, clause_value}
 use Rattle.lalrpop_norm_model.specs.TypeRounds.{TypeRow, table_of, first_value, taken, visit, visits, round, type_rounds}
 use Rattle.lalrpop_norm_model.specs.TuplePatterns.{rule_misfits, pattern_misfits}
 use Rattle.lalrpop_norm_model.specs.InferenceFaults.{is_undeclared, undeclared, lacking, inferred_table, untyped_rules, is_other, clause_disagrees, disagreeing_in, disagreeing, inference_faults}
 use Rattle.lalrpop_norm_model.specs.CheckedTokens.{with_tokens}
+use Rattle.lalrpop_norm_model.proofs.TypeEnvironments.{same_environment}
 
 -- two grammars that inference cannot distinguish
 pub record LooksSame (g h : GrammarData) : Type 0 where
@@ -32,51 +30,11 @@ pub record LooksSame (g h : GrammarData) : Type 0 where
 module _ (g h : GrammarData) (s : LooksSame g h) where
   -- ---- types
 
-  mutual
-    kind_same : (f : Table) (k : Kind) → kind_value g f k ≡ kind_value h f k
-    kind_same f (terminal t) = ap Some (s.terminals t)
-    kind_same f error_terminal = ap Some s.recovery
-    kind_same f (nonterminal n) = refl
-    kind_same f (chosen p) = part_same f p
-    kind_same f (named n p) = part_same f p
-    kind_same f (tupled ns p) = part_same f p
-    kind_same f (group ps) = refl
-    kind_same f (ambiguous_id a) = refl
-    kind_same f (call n ps) = refl
-    kind_same f (repeated op p) = refl
-    kind_same f lookahead = refl
-    kind_same f lookbehind = refl
-
-    part_same : (f : Table) (p : Part) → part_value g f p ≡ part_value h f p
-    part_same f (at x k) = kind_same f k
-
-  associated_same : (p : PathData) → associated_of g p ≡ associated_of h p
-  associated_same p = ap (λ ps. associated_in ps p.ids) s.parameters
-
-  mutual
-    type_same : (f : Table) (t : TypeData) → type_value g f t ≡ type_value h f t
-    type_same f (of_symbol k) = kind_same f k
-    type_same f (nominal p ts) = ap (λ a. path_value a p (types_value g f ts)) (associated_same p) ∙ ap (λ v. path_value (associated_of h p) p v) (types_same f ts)
-    type_same f (id a) = refl
-    type_same f (tuple ts) = ap (λ v. option_map lowered.tuple v) (types_same f ts)
-    type_same f (slice t) = ap (λ v. option_map lowered.slice v) (type_same f t)
-    type_same f (reference l m t) = ap (λ v. option_map (lowered.reference l m) v) (type_same f t)
-    type_same f (trait_object p ts) = ap (λ v. option_map (lowered.trait_object p) v) (types_same f ts)
-    type_same f (of_lifetime l) = refl
-    type_same f (function fs p ts r) =
-        ap (λ v. both (lowered.function fs p) v (return_value g f r)) (types_same f ts)
-        ∙ ap (λ v. both (lowered.function fs p) (types_value h f ts) v) (return_same f r)
-
-    types_same : (f : Table) (ts : TypesData) → types_value g f ts ≡ types_value h f ts
-    types_same f no_types = refl
-    types_same f (type_and t ts) = ap (λ v. both lowered.repr_and v (types_value g f ts)) (type_same f t) ∙ ap (λ v. both lowered.repr_and (type_value h f t) v) (types_same f ts)
-
-    return_same : (f : Table) (r : MaybeType) → return_value g f r ≡ return_value h f r
-    return_same f no_type = refl
-    return_same f (returns t) = ap (λ v. option_map lowered.returns v) (type_same f t)
+  types_same : (f : Table) → grammar_types g f ≡ grammar_types h f
+  types_same f = same_environment (grammar_types g f) (grammar_types h f) s.terminals s.recovery (λ n. refl)
 
   clause_same : (f : Table) (c : TypeClause) → clause_value g f c ≡ clause_value h f c
-  clause_same f (makes t) = type_same f t
+  clause_same f (makes t) = ap₂ (λ ps e. type_meant ps e t) s.parameters (types_same f)
   clause_same f locates = s.location
 
   -- ---- rounds

@@ -61,7 +61,6 @@ module _ (rs : List WrittenRule) (r : WrittenRule) (a : Leveled) (f : ℕ → �
         bounds_to r.name (read_kind R before after k) ≡ spread f before after (count_kind own k)
     kind_bounds before after (written.nonterminal n) h = name_bounds n before after (own n) refl
     kind_bounds before after (written.ambiguous_id n) h = absurd (cc h)
-    kind_bounds before after (written.terminal t) h = refl
     kind_bounds before after (written.group ps) h = parts_bounds before after ps h
     kind_bounds before after (written.call n ps) h =
         let behind = (and_parts (not (is_argument r.args n)) (is_macro_for ps (rule_named rs n) && are_scoped rs r.args ps) h).1 in
@@ -70,9 +69,7 @@ module _ (rs : List WrittenRule) (r : WrittenRule) (a : Leveled) (f : ℕ → �
     kind_bounds before after (written.chosen p) h = part_bounds before after p h
     kind_bounds before after (written.named n p) h = part_bounds before after p h
     kind_bounds before after (written.tupled ns p) h = part_bounds before after p h
-    kind_bounds before after written.lookahead h = refl
-    kind_bounds before after written.lookbehind h = refl
-    kind_bounds before after written.error_terminal h = refl
+    kind_bounds before after _ h = refl
 
     part_bounds : (before after : ℕ) (p : Part) → is_scoped rs r.args p ≡ true →
         bounds_to r.name (read_part R before after p) ≡ spread f before after (count_part own p)

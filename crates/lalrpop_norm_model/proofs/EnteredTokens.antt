@@ -15,7 +15,7 @@ use Rattle.lalrpop_norm_tree.specs.declared.items.MatchMapping.{MatchMapping}
 use Rattle.lalrpop_norm_tree.specs.declared.items.MatchMapping.TheVariants.{Terminal, Skip}
 use Rattle.lalrpop_norm_tree.specs.Accessors.{or_else, first_of, enum_token_of, match_item_span}
 use Rattle.lalrpop_norm_tree.specs.Items.{AlternativeData, RuleData, ConversionData, EnumTokenData, ExternTokenData, MatchTokenData, InternTokenData, ItemData, GrammarData, match_item, extern_item, intern_item, rule_item, use_item}
-use Rattle.lalrpop_norm_tree.specs.Symbols.{Kind, Part, Parts, group, ambiguous_id, terminal, nonterminal, call, repeated, chosen, named, tupled, lookahead, lookbehind, error_terminal, at, no_parts, part_and}
+use Rattle.lalrpop_norm_tree.specs.Symbols.{Kind, Part, Parts, terminal, chosen, named, tupled, at, no_parts, part_and}
 use Rattle.lalrpop_norm_faults.specs.Faults.{fault_if}
 use Rattle.lalrpop_norm_faults.specs.declared.kind.FaultKind.TheVariants.{LiteralTwice, TerminalTwice, NoMapping, NoPattern}
 use Rattle.lalrpop_norm_faults.proofs.FaultLemmas.{not_fault, holds_unless}
@@ -25,12 +25,12 @@ use Rattle.lalrpop_norm_theory.proofs.ListLemmas.{distinct_right, distinct_apart
 use Rattle.lalrpop_norm_model.specs.Features.{Features, is_active}
 use Rattle.lalrpop_norm_model.specs.Enabled.{enabled_enum, enabled_extern}
 use Rattle.lalrpop_norm_model.specs.PlainRules.{all_rules}
-use Rattle.lalrpop_norm_model.specs.Terminals.{same_terminal, same_literal, terminals_in, terminals_in_kind, terminals_in_parts, terminals_in_rule, terminals_used}
+use Rattle.lalrpop_norm_model.specs.Terminals.{same_terminal, same_literal, terminals_in, terminals_in_parts, terminals_in_rule, terminals_used}
 use Rattle.lalrpop_norm_model.specs.Entries.{match_block, item_entries, group_entries, entries_in, match_entries, catch_all, precedence_of, entry_in, own_mapping, terminal_named, user_names, IsEntry, written, added, entry_cmp, AreEntries}
 use Rattle.lalrpop_norm_model.specs.TerminalTypes.{extern_enum}
 use Rattle.lalrpop_norm_model.specs.TypeRelation.{IsRule}
 use Rattle.lalrpop_norm_model.specs.TypeTables.{Table}
-use Rattle.lalrpop_norm_model.specs.TokenFaults.{each_after, literals_of, names_mapped_by, match_item_faults, items_of, match_items, repeated_conversion_faults, places_in, places_in_kind, places_in_parts, places_used, has_entry, has_conversion, input_faults, checked_enum_faults, entry_faults, token_faults_with}
+use Rattle.lalrpop_norm_model.specs.TokenFaults.{each_after, literals_of, names_mapped_by, match_item_faults, items_of, match_items, repeated_conversion_faults, places_in, places_in_parts, places_used, has_entry, has_conversion, input_faults, checked_enum_faults, entry_faults, token_faults_with}
 use Rattle.lalrpop_norm_model.specs.CheckedTokens.{with_tokens, IsEnteredWith}
 use Rattle.lalrpop_norm_model.specs.Expanded.{is_plain_kind, is_plain, are_plain, interns, terminals_converted, terminals_with, terminals_of, IsExpanded, IsTyped}
 use Rattle.lalrpop_norm_model.specs.Laws.{EnteredAreTyped}
@@ -43,24 +43,10 @@ use Rattle.std.proofs.lemmas.Bool.{and_parts}
 
 -- ---- terminals used, and their spans
 
-mutual
-  place_in_kind : (s : Span) (t : TerminalString) (k : Kind) → In t (terminals_in_kind k) → (x : Span) × In {A = TerminalString × Span} (t, x) (places_in_kind s k)
-  place_in_kind s t (terminal u) (inl e) = (s, inl (ap (λ (v : TerminalString). let y : TerminalString × Span = (v, s) in y) e))
-  place_in_kind s t (terminal u) (inr i) = absurd i
-  place_in_kind s t (chosen p) i = place_in_part t p i
-  place_in_kind s t (named n p) i = place_in_part t p i
-  place_in_kind s t (tupled ns p) i = place_in_part t p i
-  place_in_kind s t (nonterminal n) i = absurd i
-  place_in_kind s t error_terminal i = absurd i
-  place_in_kind s t (group ps) i = absurd i
-  place_in_kind s t (ambiguous_id a) i = absurd i
-  place_in_kind s t (call n ps) i = absurd i
-  place_in_kind s t (repeated op p) i = absurd i
-  place_in_kind s t lookahead i = absurd i
-  place_in_kind s t lookbehind i = absurd i
-
-  place_in_part : (t : TerminalString) (p : Part) → In t (terminals_in p) → (x : Span) × In {A = TerminalString × Span} (t, x) (places_in p)
-  place_in_part t (at s k) i = place_in_kind s t k i
+place_in_part : (t : TerminalString) (p : Part) → In t (terminals_in p) → (x : Span) × In {A = TerminalString × Span} (t, x) (places_in p)
+place_in_part t p i =
+    let (u, j, e) = of_map (λ (v : TerminalString × Span). v.0) t (places_in p) i in
+    (u.1, subst (λ (n : TerminalString). In {A = TerminalString × Span} (n, u.1) (places_in p)) (sym e) j)
 
 place_in_all : (t : TerminalString) (ps : Parts) → In t (terminals_in_parts ps) → (x : Span) × In {A = TerminalString × Span} (t, x) (places_in_parts ps)
 place_in_all t no_parts i = absurd i
@@ -82,26 +68,19 @@ place_used g t i =
 
 -- the error terminal is not used by symbols of an expanded grammar
 mutual
-  plain_kind_used : (k : Kind) → is_plain_kind k ≡ true → In Error (terminals_in_kind k) → ⊥
-  plain_kind_used (terminal (Literal l)) h (inl e) = cc e
-  plain_kind_used (terminal (Bare a)) h (inl e) = cc e
-  plain_kind_used (terminal Error) h i = cc h
-  plain_kind_used (terminal (Literal l)) h (inr i) = i
-  plain_kind_used (terminal (Bare a)) h (inr i) = i
-  plain_kind_used (chosen p) h i = plain_part_used p h i
-  plain_kind_used (named n p) h i = plain_part_used p h i
-  plain_kind_used (tupled ns p) h i = plain_part_used p h i
-  plain_kind_used (nonterminal n) h i = i
-  plain_kind_used error_terminal h i = i
-  plain_kind_used (group ps) h i = i
-  plain_kind_used (ambiguous_id a) h i = i
-  plain_kind_used (call n ps) h i = i
-  plain_kind_used (repeated op p) h i = i
-  plain_kind_used lookahead h i = i
-  plain_kind_used lookbehind h i = i
+  plain_kind_used : (s : Span) (k : Kind) → is_plain_kind k ≡ true → In Error (terminals_in (at s k)) → ⊥
+  plain_kind_used s (terminal (Literal l)) h (inl e) = cc e
+  plain_kind_used s (terminal (Bare a)) h (inl e) = cc e
+  plain_kind_used s (terminal Error) h i = cc h
+  plain_kind_used s (terminal (Literal l)) h (inr i) = i
+  plain_kind_used s (terminal (Bare a)) h (inr i) = i
+  plain_kind_used s (chosen p) h i = plain_part_used p h i
+  plain_kind_used s (named n p) h i = plain_part_used p h i
+  plain_kind_used s (tupled ns p) h i = plain_part_used p h i
+  plain_kind_used s _ h i = i
 
   plain_part_used : (p : Part) → is_plain p ≡ true → In Error (terminals_in p) → ⊥
-  plain_part_used (at s k) h i = plain_kind_used k h i
+  plain_part_used (at s k) h i = plain_kind_used s k h i
 
 plain_parts_used : (ps : Parts) → are_plain ps ≡ true → In Error (terminals_in_parts ps) → ⊥
 plain_parts_used no_parts h i = i

@@ -29,7 +29,8 @@ use Rattle.lalrpop_norm_model.proofs.ScopeLemmas.{in_flat, rule_found}
 use Rattle.lalrpop_norm_model.proofs.WrittenLemmas.{in_numbered, leveled_some}
 use Rattle.lalrpop_norm_theory.proofs.RoundsLemmas.{in_cases}
 use Rattle.lalrpop_norm_theory.proofs.ListLemmas.{distinct_right}
-use Rattle.lalrpop_norm_model.proofs.ReadingLemmas.{parts_leveled, parts_kept, parts_alike, parts_settled}
+use Rattle.lalrpop_norm_model.proofs.SubstitutedLemmas.{parts_agree}
+use Rattle.lalrpop_norm_model.proofs.ReadingLemmas.{parts_leveled, parts_kept, parts_settled}
 use Rattle.lalrpop_norm_model.proofs.LevelRuleLemmas.{name_highest, map_parts, numbered_parts, others_named, whole, level_read, resolved_rule_places, leveled_whole}
 use Rattle.lalrpop_norm_model.proofs.GrammarLemmas.{all_level_rules, distinct_apart, rule_item_of, of_flat, as_leveled, as_flat, leveled_found, flat_found, leveled_from, flat_from, leveled_in}
 
@@ -57,7 +58,7 @@ module _ (h : GrammarData) where
 
   flat_read : (d : RuleData) (a : Leveled) (ps : Parts) → read_all (rule_reader (flat_rules h) (as_flat h d) a) ps ≡ read_all flat_reader ps
   flat_read d a ps =
-      parts_alike (rule_reader (flat_rules h) (as_flat h d) a) flat_reader (λ n before after b c. flat_name d a n (bytes_eq n d.name.0)) 0 0 0 0 ps
+      parts_agree (rule_reader (flat_rules h) (as_flat h d) a) flat_reader (λ n before after b c. flat_name d a n (bytes_eq n d.name.0)) 0 0 0 0 ps
 
   -- the alternatives of which nothing is left to resolve
   abbrev pub Settled : RuleData → Type 0

@@ -18,7 +18,7 @@ use Rattle.lalrpop_norm_model.specs.Reading.{read_all}
 use Rattle.lalrpop_norm_model.specs.Grammars.{is_nil, has_arguments, is_own_level, bound_of, own_bound_in, rule_reader, parts_at, rule_parts, place_count, previous_bound, ConditionValue, meaning}
 use Rattle.lalrpop_norm_model.specs.ClosedTexts.{level_name, named_level, level_names}
 use Rattle.lalrpop_norm_model.specs.MadeRules.{flat_reader}
-use Rattle.lalrpop_norm_model.specs.LevelRules.{leveled_parts, level_of_rule, level_alternative, step_alternatives, of_level, level_rule}
+use Rattle.lalrpop_norm_model.specs.LevelRules.{leveled_parts, level_nonterminal, level_of_rule, level_alternative, step_alternatives, of_level, level_rule}
 use Rattle.lalrpop_norm_model.specs.Scoped.{are_scoped}
 use Rattle.lalrpop_norm_model.specs.Laws.{LevelRulesAreRead}
 use Rattle.lalrpop_norm_model.proofs.ReadingLemmas.{parts_leveled}
@@ -86,7 +86,7 @@ module _ (rs : List WrittenRule) where
           leveled_symbols (level_names rs) (read_all (rule_reader rs whole a) a.alternative.parts) ≡ read_all flat_reader (level_alternative d ps a).parts
       own_read a i =
           subst (λ (b : Bool). leveled_symbols (level_names rs) (read_all (rule_reader rs whole a) a.alternative.parts)
-          ≡ read_all flat_reader (leveled_parts (λ n. b && bytes_eq n d.name.0) (level_at_place a) 0 0 a.alternative.parts)) (sym plain)
+          ≡ read_all flat_reader (leveled_parts (λ n. b && bytes_eq n d.name.0) (level_nonterminal (level_at_place a)) 0 0 a.alternative.parts)) (sym plain)
           (parts_leveled rs d.args (level_names rs) (rule_reader rs whole a) flat_reader (level_at_place a)
           (λ n before after b c. ap (λ m. reference m None) (name_read a n before after (bytes_eq n d.name.0) refl))
           0 0 0 0 a.alternative.parts (scoped a i))

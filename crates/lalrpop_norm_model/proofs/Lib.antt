@@ -5,6 +5,7 @@ pub mod ScopeLemmas
 pub mod StatedLemmas
 pub mod WrittenLemmas
 pub mod EnabledLemmas
+pub mod TraversalLemmas
 pub mod ResolvedLemmas
 pub mod NumberedNames
 pub mod ReadingLemmas
@@ -66,6 +67,7 @@ pub mod RenumberedExamples
 pub mod LateFaultExamples
 pub mod TokenFindingLemmas
 pub mod LexerFaultExamples
+pub mod TypeEnvironments
 pub mod AutomatonLemmas
 pub mod EntryOrder
 pub mod SameTerminalLemmas

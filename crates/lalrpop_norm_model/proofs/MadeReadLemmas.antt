@@ -26,7 +26,7 @@ use Rattle.lalrpop_norm_model.specs.Grammars.{is_nil, is_own_level, bound_of, ow
 use Rattle.lalrpop_norm_model.specs.Scoped.{takes, is_macro_for, is_scoped, are_scoped}
 use Rattle.lalrpop_norm_model.specs.MadeRules.{argument_kind, flat_reader, instance_alternative, instance_alternatives, instance_rule, instance_of, macro_named, group_rule, star_rule, plus_rule, question_rule, so_many, times_rule, location_rule, made_rules}
 use Rattle.lalrpop_norm_model.specs.PlainRules.{rule_of_item, all_rules, macros_of}
-use Rattle.lalrpop_norm_model.specs.PlainTables.{closed, closed_parts, unwrapped, all_unwrapped, IsRuleOf}
+use Rattle.lalrpop_norm_model.specs.PlainTables.{closed, closed_parts, ground_unwrapped, all_unwrapped, IsRuleOf}
 use Rattle.lalrpop_norm_model.specs.Laws.{MadeRulesAreRead, RulesAreRead}
 use Rattle.lalrpop_norm_model.proofs.LevelLemmas.{in_map}
 use Rattle.lalrpop_norm_model.proofs.LevelRuleLemmas.{numbered_parts, resolved_rule_places}
@@ -284,7 +284,7 @@ module _ (value : ConditionValue) (ds : List RuleData) where
     record {
       name = refl;
       clauses_held =
-          ap₂ (λ x y. symbol_and (unwrapped (closed p)) no_symbols ∷ (symbol_and (plus x) (symbol_and (unwrapped y) no_symbols) ∷ []))
+          ap₂ (λ x y. symbol_and (ground_unwrapped (closed p)) no_symbols ∷ (symbol_and (plus x) (symbol_and (ground_unwrapped y) no_symbols) ∷ []))
           (flat_part 0 _ 0 0 p) (flat_part _ 0 0 0 p);
       held_as_they_are = λ i. absurd (cc i);
     },
@@ -309,13 +309,7 @@ module _ (value : ConditionValue) (ds : List RuleData) where
   rule_made (at s (written.repeated op p)) h e = repeat_made s op p
   rule_made (at s written.lookahead) h e = (location_rule s written.lookahead lookahead_code, refl, whole_rule meaning_read _ _ refl refl)
   rule_made (at s written.lookbehind) h e = (location_rule s written.lookbehind lookbehind_code, refl, whole_rule meaning_read _ _ refl refl)
-  rule_made (at s (written.ambiguous_id a)) h e = absurd e
-  rule_made (at s (written.terminal t)) h e = absurd e
-  rule_made (at s (written.nonterminal n)) h e = absurd e
-  rule_made (at s (written.chosen p)) h e = absurd e
-  rule_made (at s (written.named n p)) h e = absurd e
-  rule_made (at s (written.tupled ns p)) h e = absurd e
-  rule_made (at s written.error_terminal) h e = absurd e
+  rule_made _ h e = absurd e
 
 -- ---- laws
 

@@ -61,10 +61,7 @@ module _ (rs : List WrittenRule) where
     met_made (at s (written.tupled ns p)) h q i = met_made p h q i
     met_made (at s written.lookahead) h q i = then_itself (at s written.lookahead) [] (refl, tt) (λ r j. absurd j) q i
     met_made (at s written.lookbehind) h q i = then_itself (at s written.lookbehind) [] (refl, tt) (λ r j. absurd j) q i
-    met_made (at s (written.ambiguous_id a)) h q i = absurd i
-    met_made (at s (written.terminal t)) h q i = absurd i
-    met_made (at s (written.nonterminal n)) h q i = absurd i
-    met_made (at s written.error_terminal) h q i = absurd i
+    met_made (at s _) h q i = absurd i
 
     all_met_made : (ps : Parts) → are_scoped rs [] ps ≡ true → (q : Part) → In q (all_met ps) → IsMade q
     all_met_made no_parts h q i = absurd i
@@ -135,7 +132,6 @@ module _ (rs : List WrittenRule) where
       kind_put_scoped : (k : Kind) → is_scoped_kind rs params k ≡ true → is_scoped_kind rs [] (kind_substituted (argument_kind params args) k) ≡ true
       kind_put_scoped (written.nonterminal n) h = argument_scoped params args n fitting scoped h
       kind_put_scoped (written.ambiguous_id n) h = absurd (cc h)
-      kind_put_scoped (written.terminal t) h = refl
       kind_put_scoped (written.group ps) h = parts_put_scoped ps h
       kind_put_scoped (written.call n ps) h =
           let behind = (and_parts (not (is_argument params n)) (is_macro_for ps (rule_named rs n) && are_scoped rs params ps) h).1 in
@@ -145,9 +141,7 @@ module _ (rs : List WrittenRule) where
       kind_put_scoped (written.chosen p) h = part_put_scoped p h
       kind_put_scoped (written.named n p) h = part_put_scoped p h
       kind_put_scoped (written.tupled ns p) h = part_put_scoped p h
-      kind_put_scoped written.lookahead h = refl
-      kind_put_scoped written.lookbehind h = refl
-      kind_put_scoped written.error_terminal h = refl
+      kind_put_scoped _ h = refl
 
       part_put_scoped : (p : Part) → is_scoped rs params p ≡ true → is_scoped rs [] (substituted (argument_kind params args) p) ≡ true
       part_put_scoped (at s k) h = kind_put_scoped k h
@@ -214,13 +208,7 @@ module _ (value : ConditionValue) (ds : List RuleData) (S : IsScoped (map flat_o
       only_scoped (map flat_of ds) (times_rule s n p) r (many_scoped (map flat_of ds) n p h.0, tt) i
   made_rule_scoped (at s written.lookahead) h r i = only_scoped (map flat_of ds) (location_rule s written.lookahead lookahead_code) r (refl, tt) i
   made_rule_scoped (at s written.lookbehind) h r i = only_scoped (map flat_of ds) (location_rule s written.lookbehind lookbehind_code) r (refl, tt) i
-  made_rule_scoped (at s (written.ambiguous_id a)) h r i = absurd i
-  made_rule_scoped (at s (written.terminal t)) h r i = absurd i
-  made_rule_scoped (at s (written.nonterminal n)) h r i = absurd i
-  made_rule_scoped (at s (written.chosen p)) h r i = absurd i
-  made_rule_scoped (at s (written.named n p)) h r i = absurd i
-  made_rule_scoped (at s (written.tupled ns p)) h r i = absurd i
-  made_rule_scoped (at s written.error_terminal) h r i = absurd i
+  made_rule_scoped (at s _) h r i = absurd i
 
   -- what the rule of a symbol reaches
   pub next_made : (p : Part) → IsMade (map flat_of ds) p → (q : Part) → In q (met_by_made value (macros_in ds) p) → IsMade (map flat_of ds) q

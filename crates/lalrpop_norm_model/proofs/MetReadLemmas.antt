@@ -7,7 +7,7 @@ use Rattle.lalrpop_norm_tree.specs.declared.symbol.RepeatOp.TheVariants.{Star, P
 use Rattle.lalrpop_norm_tree.specs.Symbols as written
 use Rattle.lalrpop_norm_tree.specs.Symbols.{Part, Parts, at, no_parts, part_and}
 use Rattle.lalrpop_norm_tree.specs.Items.{AlternativeData, RuleData}
-use Rattle.lalrpop_norm_theory.specs.Symbols.{ClosedSymbol, ClosedSymbols, terminal, error, reference, call, group, star, plus, question, times, wrapped, lookahead, lookbehind, no_symbols, symbol_and}
+use Rattle.lalrpop_norm_theory.specs.Symbols.{ClosedSymbol, ClosedSymbols, reference, call, group, wrapped, no_symbols, symbol_and}
 use Rattle.lalrpop_norm_theory.specs.Rounds.{In}
 use Rattle.lalrpop_norm_theory.specs.Meaning.{Meaning}
 use Rattle.lalrpop_norm_theory.specs.Clauses.{Clause, clauses}
@@ -18,7 +18,7 @@ use Rattle.lalrpop_norm_model.specs.Reading.{repeat_of, read_part, read_parts}
 use Rattle.lalrpop_norm_model.specs.Grammars.{meaning, references}
 use Rattle.lalrpop_norm_model.specs.MadeRules.{flat_reader}
 use Rattle.lalrpop_norm_model.specs.PlainRules.{met, all_met, met_in_rule, rules_without_arguments}
-use Rattle.lalrpop_norm_model.specs.PlainTables.{closed, closed_parts, unwrapped, all_unwrapped}
+use Rattle.lalrpop_norm_model.specs.PlainTables.{closed, closed_parts, ground_unwrapped, all_unwrapped}
 use Rattle.lalrpop_norm_model.specs.Laws.{MetIsRead}
 use Rattle.lalrpop_norm_model.proofs.SubstitutedLemmas.{flat_part, flat_parts}
 use Rattle.lalrpop_norm_model.proofs.MadeReadLemmas.{held, made_rules_are_read, rules_are_read}
@@ -48,12 +48,7 @@ mutual
   met_read before after (at s (written.chosen p)) = met_read before after p
   met_read before after (at s (written.named n p)) = met_read before after p
   met_read before after (at s (written.tupled ns p)) = met_read before after p
-  met_read before after (at s written.lookahead) = refl
-  met_read before after (at s written.lookbehind) = refl
-  met_read before after (at s (written.ambiguous_id a)) = refl
-  met_read before after (at s (written.terminal t)) = refl
-  met_read before after (at s (written.nonterminal n)) = refl
-  met_read before after (at s written.error_terminal) = refl
+  met_read before after (at s _) = refl
 
   pub all_met_read : (before after : ℕ) (ps : Parts) → map closed (all_met ps) ≡ meets_all (read_parts flat_reader before after ps)
   all_met_read before after no_parts = refl
@@ -64,19 +59,9 @@ mutual
 
 -- ---- wrappers reach nothing
 
-unwrapped_meets : (g : ClosedSymbol) → meets (unwrapped g) ≡ meets g
+unwrapped_meets : (g : ClosedSymbol) → meets (ground_unwrapped g) ≡ meets g
 unwrapped_meets (wrapped w g) = unwrapped_meets g
-unwrapped_meets (terminal a) = refl
-unwrapped_meets error = refl
-unwrapped_meets (reference n b) = refl
-unwrapped_meets (call n gs) = refl
-unwrapped_meets (group gs) = refl
-unwrapped_meets (star g) = refl
-unwrapped_meets (plus g) = refl
-unwrapped_meets (question g) = refl
-unwrapped_meets (times n g) = refl
-unwrapped_meets lookahead = refl
-unwrapped_meets lookbehind = refl
+unwrapped_meets _ = refl
 
 all_unwrapped_meet : (gs : ClosedSymbols) → meets_all (all_unwrapped gs) ≡ meets_all gs
 all_unwrapped_meet no_symbols = refl

@@ -8,7 +8,7 @@ use Rattle.lalrpop_norm_tree.specs.Symbols as written
 use Rattle.lalrpop_norm_tree.specs.Symbols.{Kind, Part, Parts, at, no_parts, part_and}
 use Rattle.lalrpop_norm_tree.specs.Items.{AlternativeData, RuleData, GrammarData}
 use Rattle.lalrpop_norm_tree.specs.SymbolTexts.{kind_text}
-use Rattle.lalrpop_norm_theory.specs.Symbols.{Name, ClosedSymbol, ClosedSymbols, terminal, error, reference, call, group, star, plus, question, times, wrapped, lookahead, lookbehind, no_symbols, symbol_and}
+use Rattle.lalrpop_norm_theory.specs.Symbols.{Name, ClosedSymbol, ClosedSymbols, reference, wrapped, no_symbols, symbol_and}
 use Rattle.lalrpop_norm_theory.specs.Rounds.{In}
 use Rattle.lalrpop_norm_theory.specs.Meaning.{Meaning}
 use Rattle.lalrpop_norm_theory.specs.LoweredTrees.{nonterminal_symbol, Origin}
@@ -25,7 +25,7 @@ use Rattle.lalrpop_norm_model.specs.Replaced.{replaced_kind, replaced, all_repla
 use Rattle.lalrpop_norm_model.specs.MadeRules.{flat_reader, made_rules}
 use Rattle.lalrpop_norm_model.specs.PlainRules.{replaced_alternative, replaced_rule, rules_without_arguments, macros_of, made_symbols, plain_rules}
 use Rattle.lalrpop_norm_model.specs.Origins.{rule_origins, plain_symbols}
-use Rattle.lalrpop_norm_model.specs.PlainTables.{IsSettled, closed, closed_parts, unwrapped, all_unwrapped, plain_symbol_kind, lowered_part, lowered_parts, productions_with_origins, rules_from}
+use Rattle.lalrpop_norm_model.specs.PlainTables.{IsSettled, closed, closed_parts, ground_unwrapped, all_unwrapped, plain_symbol_kind, lowered_part, lowered_parts, productions_with_origins, rules_from}
 use Rattle.lalrpop_norm_model.specs.Laws.{PlainRulesAreRead}
 use Rattle.lalrpop_norm_model.proofs.TextLemmas.{kind_displayed, part_displayed}
 use Rattle.lalrpop_norm_model.proofs.MadeReadLemmas.{held, made_rules_are_read, rules_are_read}
@@ -53,12 +53,7 @@ module _ (rs : List WrittenRule) where
     kind_lowered before after (written.chosen p) = part_lowered before after p
     kind_lowered before after (written.named n p) = part_lowered before after p
     kind_lowered before after (written.tupled ns p) = part_lowered before after p
-    kind_lowered before after (written.nonterminal n) = refl
-    kind_lowered before after (written.ambiguous_id n) = refl
-    kind_lowered before after (written.terminal t) = refl
-    kind_lowered before after written.lookahead = refl
-    kind_lowered before after written.lookbehind = refl
-    kind_lowered before after written.error_terminal = refl
+    kind_lowered before after _ = refl
 
     part_lowered : (before after : ℕ) (p : Part) → lowered_part (replaced p) ≡ symbol_of (text_in rs) (read_part flat_reader before after p)
     part_lowered before after (at s k) = kind_lowered before after k
@@ -70,19 +65,9 @@ module _ (rs : List WrittenRule) where
 
 -- wrappers are no part of a production
 module _ (name : ClosedSymbol → Name) where
-  unwrapped_symbol : (g : ClosedSymbol) → symbol_of name (unwrapped g) ≡ symbol_of name g
+  unwrapped_symbol : (g : ClosedSymbol) → symbol_of name (ground_unwrapped g) ≡ symbol_of name g
   unwrapped_symbol (wrapped w g) = unwrapped_symbol g
-  unwrapped_symbol (terminal a) = refl
-  unwrapped_symbol error = refl
-  unwrapped_symbol (reference n b) = refl
-  unwrapped_symbol (call n gs) = refl
-  unwrapped_symbol (group gs) = refl
-  unwrapped_symbol (star g) = refl
-  unwrapped_symbol (plus g) = refl
-  unwrapped_symbol (question g) = refl
-  unwrapped_symbol (times n g) = refl
-  unwrapped_symbol lookahead = refl
-  unwrapped_symbol lookbehind = refl
+  unwrapped_symbol _ = refl
 
   unwrapped_symbols : (gs : ClosedSymbols) → symbols_of name (all_unwrapped gs) ≡ symbols_of name gs
   unwrapped_symbols no_symbols = refl

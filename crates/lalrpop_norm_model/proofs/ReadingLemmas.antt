@@ -1,5 +1,5 @@
 -- What is in the grammar with levels reads as the bounded symbols with the names of their levels.
-use Rattle.std.proofs.Common.{◌≡◌, ℕ, ◌+◌, List, Option, Bool, true, false, ◌&&◌, refl, ap, ap₂, ◌∙◌}
+use Rattle.std.proofs.Common.{◌≡◌, ℕ, ◌+◌, List, Option, Bool, true, false, ◌&&◌, refl, sym, ap, ap₂, ◌∙◌}
 use Rattle.std.specs.Prelude.{not, if◌then◌else◌}
 use Rattle.std.proofs.lemmas.Bool.{and_parts}
 use Rattle.lalrpop_norm_tree_names.specs.declared.names.NonterminalString.{NonterminalString}
@@ -14,7 +14,7 @@ use Rattle.lalrpop_norm_model.specs.WrittenRules.{WrittenRule, rule_named}
 use Rattle.lalrpop_norm_model.specs.Occurrences.{count_part, count_parts}
 use Rattle.lalrpop_norm_model.specs.Reading.{Reader, closed_patterns_of, repeat_of, read_name, read_kind, read_part, read_parts}
 use Rattle.lalrpop_norm_model.specs.Scoped.{is_scoped_kind, is_scoped, are_scoped, is_macro_for}
-use Rattle.lalrpop_norm_model.specs.LevelRules.{leveled_kind, leveled_part, leveled_parts}
+use Rattle.lalrpop_norm_model.specs.LevelRules.{leveled_kind, leveled_part, leveled_parts, level_nonterminal}
 
 repeat_leveled : (l : Name → ℕ → Name) (op : RepeatOp) (x : ClosedSymbol) → leveled_symbol l (repeat_of op x) ≡ repeat_of op (leveled_symbol l x)
 repeat_leveled l Star x = refl
@@ -22,16 +22,27 @@ repeat_leveled l Plus x = refl
 repeat_leveled l Question x = refl
 repeat_leveled l (Times n) x = refl
 
+-- one of two names as a symbol
+pub one_name : (x : Bool) (m n : Name) → (if x then written.nonterminal m else written.nonterminal n) ≡ written.nonterminal (if x then m else n)
+one_name true m n = refl
+one_name false m n = refl
+
+-- the name of a rule has nothing to resolve
+pub name_settled : (sense : Name → Option Sense) (x : Bool) (m n : Name) →
+    resolved_kind sense (if x then written.nonterminal m else written.nonterminal n) ≡ (if x then written.nonterminal m else written.nonterminal n)
+name_settled sense true m n = refl
+name_settled sense false m n = refl
+
 -- R reads the symbols with bounds, Q what the grammar with levels has in their place
 module _ (rs : List WrittenRule) (args : List NonterminalString) (l : Name → ℕ → Name) (R Q : Reader) (level : ℕ → ℕ → Name)
     (same : (n : Name) (before after b a : ℕ) →
     leveled_symbol l (read_name R before after n) ≡ read_name Q b a (if R.is_own n then level before after else n)) where
   mutual
     kind_leveled : (before after b a : ℕ) (k : Kind) → is_scoped_kind rs args k ≡ true →
-        leveled_symbol l (read_kind R before after k) ≡ read_kind Q b a (leveled_kind R.is_own level before after k)
-    kind_leveled before after b a (written.nonterminal n) h = same n before after b a
+        leveled_symbol l (read_kind R before after k) ≡ read_kind Q b a (leveled_kind R.is_own (level_nonterminal level) before after k)
+    kind_leveled before after b a (written.nonterminal n) h =
+        same n before after b a ∙ ap (read_kind Q b a) (sym (one_name (R.is_own n) (level before after) n))
     kind_leveled before after b a (written.ambiguous_id n) h = absurd (cc h)
-    kind_leveled before after b a (written.terminal t) h = refl
     kind_leveled before after b a (written.group ps) h = ap group (parts_leveled before after b a ps h)
     kind_leveled before after b a (written.call n ps) h =
         let behind = (and_parts (not (is_argument args n)) (is_macro_for ps (rule_named rs n) && are_scoped rs args ps) h).1 in
@@ -41,89 +52,59 @@ module _ (rs : List WrittenRule) (args : List NonterminalString) (l : Name → �
     kind_leveled before after b a (written.chosen p) h = ap (wrapped chosen) (part_leveled before after b a p h)
     kind_leveled before after b a (written.named n p) h = ap (wrapped (named n.mutable n.name)) (part_leveled before after b a p h)
     kind_leveled before after b a (written.tupled ns p) h = ap (wrapped (tuple (closed_patterns_of ns))) (part_leveled before after b a p h)
-    kind_leveled before after b a written.lookahead h = refl
-    kind_leveled before after b a written.lookbehind h = refl
-    kind_leveled before after b a written.error_terminal h = refl
+    kind_leveled before after b a _ h = refl
 
     part_leveled : (before after b a : ℕ) (p : Part) → is_scoped rs args p ≡ true →
-        leveled_symbol l (read_part R before after p) ≡ read_part Q b a (leveled_part R.is_own level before after p)
+        leveled_symbol l (read_part R before after p) ≡ read_part Q b a (leveled_part R.is_own (level_nonterminal level) before after p)
     part_leveled before after b a (at s k) h = kind_leveled before after b a k h
 
     pub parts_leveled : (before after b a : ℕ) (ps : Parts) → are_scoped rs args ps ≡ true →
-        leveled_symbols l (read_parts R before after ps) ≡ read_parts Q b a (leveled_parts R.is_own level before after ps)
+        leveled_symbols l (read_parts R before after ps) ≡ read_parts Q b a (leveled_parts R.is_own (level_nonterminal level) before after ps)
     parts_leveled before after b a no_parts h = refl
     parts_leveled before after b a (part_and p ps) h =
         let both = and_parts (is_scoped rs args p) (are_scoped rs args ps) h in
         ap₂ symbol_and
         (part_leveled before (after + count_parts R.is_own ps) b
-        (a + count_parts Q.is_own (leveled_parts R.is_own level (before + count_part R.is_own p) after ps)) p both.0)
+        (a + count_parts Q.is_own (leveled_parts R.is_own (level_nonterminal level) (before + count_part R.is_own p) after ps)) p both.0)
         (parts_leveled (before + count_part R.is_own p) after
-        (b + count_part Q.is_own (leveled_part R.is_own level before (after + count_parts R.is_own ps) p)) a ps both.1)
+        (b + count_part Q.is_own (leveled_part R.is_own (level_nonterminal level) before (after + count_parts R.is_own ps) p)) a ps both.1)
 
--- where the name of each recursive occurrence is its own name, nothing changes
-module _ (own : Name → Bool) (level : ℕ → ℕ → Name) (same : (n : Name) (before after : ℕ) → own n ≡ true → level before after ≡ n) where
-  kept_name : (n : Name) (before after : ℕ) (b : Bool) → own n ≡ b → (if b then level before after else n) ≡ n
-  kept_name n before after true e = same n before after e
-  kept_name n before after false e = refl
+-- where each recursive occurrence becomes its own name, nothing changes
+module _ (own : Name → Bool) (level : ℕ → ℕ → Kind) (same : (n : Name) (before after : ℕ) → own n ≡ true → level before after ≡ written.nonterminal n) where
+  unchanged_name : (n : Name) (before after : ℕ) (b : Bool) → own n ≡ b → (if b then level before after else written.nonterminal n) ≡ written.nonterminal n
+  unchanged_name n before after true e = same n before after e
+  unchanged_name n before after false e = refl
 
   mutual
-    kind_kept : (before after : ℕ) (k : Kind) → leveled_kind own level before after k ≡ k
-    kind_kept before after (written.nonterminal n) = ap written.nonterminal (kept_name n before after (own n) refl)
-    kind_kept before after (written.group ps) = ap written.group (parts_kept before after ps)
-    kind_kept before after (written.call n ps) = ap (written.call n) (parts_kept before after ps)
-    kind_kept before after (written.repeated op p) = ap (written.repeated op) (part_kept before after p)
-    kind_kept before after (written.chosen p) = ap written.chosen (part_kept before after p)
-    kind_kept before after (written.named n p) = ap (written.named n) (part_kept before after p)
-    kind_kept before after (written.tupled ns p) = ap (written.tupled ns) (part_kept before after p)
-    kind_kept before after (written.ambiguous_id n) = refl
-    kind_kept before after (written.terminal t) = refl
-    kind_kept before after written.lookahead = refl
-    kind_kept before after written.lookbehind = refl
-    kind_kept before after written.error_terminal = refl
+    kind_unchanged : (before after : ℕ) (k : Kind) → leveled_kind own level before after k ≡ k
+    kind_unchanged before after (written.nonterminal n) = unchanged_name n before after (own n) refl
+    kind_unchanged before after (written.group ps) = ap written.group (parts_unchanged before after ps)
+    kind_unchanged before after (written.call n ps) = ap (written.call n) (parts_unchanged before after ps)
+    kind_unchanged before after (written.repeated op p) = ap (written.repeated op) (part_unchanged before after p)
+    kind_unchanged before after (written.chosen p) = ap written.chosen (part_unchanged before after p)
+    kind_unchanged before after (written.named n p) = ap (written.named n) (part_unchanged before after p)
+    kind_unchanged before after (written.tupled ns p) = ap (written.tupled ns) (part_unchanged before after p)
+    kind_unchanged before after _ = refl
 
-    part_kept : (before after : ℕ) (p : Part) → leveled_part own level before after p ≡ p
-    part_kept before after (at s k) = ap (at s) (kind_kept before after k)
+    part_unchanged : (before after : ℕ) (p : Part) → leveled_part own level before after p ≡ p
+    part_unchanged before after (at s k) = ap (at s) (kind_unchanged before after k)
 
-    pub parts_kept : (before after : ℕ) (ps : Parts) → leveled_parts own level before after ps ≡ ps
-    parts_kept before after no_parts = refl
-    parts_kept before after (part_and p ps) =
-        ap₂ part_and (part_kept before (after + count_parts own ps) p) (parts_kept (before + count_part own p) after ps)
+    pub parts_unchanged : (before after : ℕ) (ps : Parts) → leveled_parts own level before after ps ≡ ps
+    parts_unchanged before after no_parts = refl
+    parts_unchanged before after (part_and p ps) =
+        ap₂ part_and (part_unchanged before (after + count_parts own ps) p) (parts_unchanged (before + count_part own p) after ps)
 
--- two readers that read each name alike read alike
-module _ (R Q : Reader) (same : (n : Name) (before after b a : ℕ) → read_name R before after n ≡ read_name Q b a n) where
-  mutual
-    kind_alike : (before after b a : ℕ) (k : Kind) → read_kind R before after k ≡ read_kind Q b a k
-    kind_alike before after b a (written.nonterminal n) = same n before after b a
-    kind_alike before after b a (written.ambiguous_id n) = same n before after b a
-    kind_alike before after b a (written.terminal t) = refl
-    kind_alike before after b a (written.group ps) = ap group (parts_alike before after b a ps)
-    kind_alike before after b a (written.call n ps) = ap (call n) (parts_alike before after b a ps)
-    kind_alike before after b a (written.repeated op p) = ap (repeat_of op) (part_alike before after b a p)
-    kind_alike before after b a (written.chosen p) = ap (wrapped chosen) (part_alike before after b a p)
-    kind_alike before after b a (written.named n p) = ap (wrapped (named n.mutable n.name)) (part_alike before after b a p)
-    kind_alike before after b a (written.tupled ns p) = ap (wrapped (tuple (closed_patterns_of ns))) (part_alike before after b a p)
-    kind_alike before after b a written.lookahead = refl
-    kind_alike before after b a written.lookbehind = refl
-    kind_alike before after b a written.error_terminal = refl
-
-    part_alike : (before after b a : ℕ) (p : Part) → read_part R before after p ≡ read_part Q b a p
-    part_alike before after b a (at s k) = kind_alike before after b a k
-
-    pub parts_alike : (before after b a : ℕ) (ps : Parts) → read_parts R before after ps ≡ read_parts Q b a ps
-    parts_alike before after b a no_parts = refl
-    parts_alike before after b a (part_and p ps) =
-        ap₂ symbol_and
-        (part_alike before (after + count_parts R.is_own ps) b (a + count_parts Q.is_own ps) p)
-        (parts_alike (before + count_part R.is_own p) after (b + count_part Q.is_own p) a ps)
+pub parts_kept : (own : Name → Bool) (level : ℕ → ℕ → Name) → ((n : Name) (before after : ℕ) → own n ≡ true → level before after ≡ n) →
+    (before after : ℕ) (ps : Parts) → leveled_parts own (level_nonterminal level) before after ps ≡ ps
+parts_kept own level same = parts_unchanged own (level_nonterminal level) (λ n before after e. ap written.nonterminal (same n before after e))
 
 -- where each name has a meaning there is nothing left to resolve, also once recursive occurrences have the names of their levels
 module _ (rs : List WrittenRule) (args : List NonterminalString) (sense : Name → Option Sense) (own : Name → Bool) (level : ℕ → ℕ → Name) where
   mutual
     kind_settled : (before after : ℕ) (k : Kind) → is_scoped_kind rs args k ≡ true →
-        resolved_kind sense (leveled_kind own level before after k) ≡ leveled_kind own level before after k
-    kind_settled before after (written.nonterminal n) h = refl
+        resolved_kind sense (leveled_kind own (level_nonterminal level) before after k) ≡ leveled_kind own (level_nonterminal level) before after k
+    kind_settled before after (written.nonterminal n) h = name_settled sense (own n) (level before after) n
     kind_settled before after (written.ambiguous_id n) h = absurd (cc h)
-    kind_settled before after (written.terminal t) h = refl
     kind_settled before after (written.group ps) h = ap written.group (parts_settled before after ps h)
     kind_settled before after (written.call n ps) h =
         let behind = (and_parts (not (is_argument args n)) (is_macro_for ps (rule_named rs n) && are_scoped rs args ps) h).1 in
@@ -132,16 +113,14 @@ module _ (rs : List WrittenRule) (args : List NonterminalString) (sense : Name �
     kind_settled before after (written.chosen p) h = ap written.chosen (part_settled before after p h)
     kind_settled before after (written.named n p) h = ap (written.named n) (part_settled before after p h)
     kind_settled before after (written.tupled ns p) h = ap (written.tupled ns) (part_settled before after p h)
-    kind_settled before after written.lookahead h = refl
-    kind_settled before after written.lookbehind h = refl
-    kind_settled before after written.error_terminal h = refl
+    kind_settled before after _ h = refl
 
     part_settled : (before after : ℕ) (p : Part) → is_scoped rs args p ≡ true →
-        resolved_part sense (leveled_part own level before after p) ≡ leveled_part own level before after p
+        resolved_part sense (leveled_part own (level_nonterminal level) before after p) ≡ leveled_part own (level_nonterminal level) before after p
     part_settled before after (at s k) h = ap (at s) (kind_settled before after k h)
 
     pub parts_settled : (before after : ℕ) (ps : Parts) → are_scoped rs args ps ≡ true →
-        resolved_parts sense (leveled_parts own level before after ps) ≡ leveled_parts own level before after ps
+        resolved_parts sense (leveled_parts own (level_nonterminal level) before after ps) ≡ leveled_parts own (level_nonterminal level) before after ps
     parts_settled before after no_parts h = refl
     parts_settled before after (part_and p ps) h =
         let both = and_parts (is_scoped rs args p) (are_scoped rs args ps) h in

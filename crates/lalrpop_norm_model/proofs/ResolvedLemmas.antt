@@ -1,10 +1,11 @@
 -- Resolving names is idempotent.
-use Rattle.std.proofs.Common.{◌≡◌, ℕ, List, [], ◌∷◌, ◌++◌, map, Option, Some, None, refl, ap, ap₂, ◌∙◌}
+use Rattle.std.proofs.Common.{◌≡◌, true, ℕ, List, [], ◌∷◌, ◌++◌, map, Option, Some, None, refl, ap, ap₂, ◌∙◌}
 use Rattle.std.specs.Prelude.{flat_map}
-use Rattle.lalrpop_norm_tree.specs.Symbols.{Kind, Part, Parts, group, ambiguous_id, terminal, nonterminal, call, repeated, chosen, named, tupled, lookahead, lookbehind, error_terminal, at, no_parts, part_and}
+use Rattle.lalrpop_norm_tree.specs.Symbols.{Kind, Parts, ambiguous_id}
 use Rattle.lalrpop_norm_tree.specs.Items.{AlternativeData, ItemData, GrammarData, match_item, extern_item, intern_item, rule_item, use_item}
-use Rattle.lalrpop_norm_model.specs.Scopes.{a_rule, a_macro, a_terminal, Global, Sense, an_argument, a_global, rule_globals, conversion_globals, match_globals, globals, sense_of, by_sense, resolved_kind, resolved_part, resolved_parts, resolved_alternative, resolved_item}
+use Rattle.lalrpop_norm_model.specs.Scopes.{a_rule, a_macro, a_terminal, Global, Sense, an_argument, a_global, rule_globals, conversion_globals, match_globals, globals, sense_of, by_sense, resolved_leaf, resolved_kind, resolved_parts, resolved_alternative, resolved_item}
 use Rattle.lalrpop_norm_model.specs.Laws.{ResolvedOnce}
+use Rattle.lalrpop_norm_model.proofs.TraversalLemmas.{is_leaf, parts_kept}
 
 module _ (sense : List ℕ → Option Sense) where
   name_once : (o : Option Sense) (n : List ℕ) → sense n ≡ o → resolved_kind sense (by_sense o n) ≡ by_sense o n
@@ -14,27 +15,12 @@ module _ (sense : List ℕ → Option Sense) where
   name_once (Some (a_global (a_macro k))) n e = ap (λ o. by_sense o n) e
   name_once None n e = ap (λ o. by_sense o n) e
 
-  mutual
-    kind_once : (k : Kind) → resolved_kind sense (resolved_kind sense k) ≡ resolved_kind sense k
-    kind_once (ambiguous_id a) = name_once (sense a) a refl
-    kind_once (group ps) = ap group (parts_once ps)
-    kind_once (terminal t) = refl
-    kind_once (nonterminal n) = refl
-    kind_once (call n ps) = ap (call n) (parts_once ps)
-    kind_once (repeated op p) = ap (repeated op) (part_once p)
-    kind_once (chosen p) = ap chosen (part_once p)
-    kind_once (named n p) = ap (named n) (part_once p)
-    kind_once (tupled ns p) = ap (tupled ns) (part_once p)
-    kind_once lookahead = refl
-    kind_once lookbehind = refl
-    kind_once error_terminal = refl
+  leaf_once : (k : Kind) → is_leaf k ≡ true → resolved_kind sense (resolved_leaf sense k) ≡ resolved_leaf sense k
+  leaf_once (ambiguous_id a) h = name_once (sense a) a refl
+  leaf_once _ h = cc h
 
-    part_once : (p : Part) → resolved_part sense (resolved_part sense p) ≡ resolved_part sense p
-    part_once (at s k) = ap (at s) (kind_once k)
-
-    pub parts_once : (ps : Parts) → resolved_parts sense (resolved_parts sense ps) ≡ resolved_parts sense ps
-    parts_once no_parts = refl
-    parts_once (part_and p ps) = ap₂ part_and (part_once p) (parts_once ps)
+  pub parts_once : (ps : Parts) → resolved_parts sense (resolved_parts sense ps) ≡ resolved_parts sense ps
+  parts_once = parts_kept (resolved_leaf sense) (resolved_leaf sense) leaf_once
 
   alternatives_once : (xs : List AlternativeData) →
       map (resolved_alternative sense) (map (resolved_alternative sense) xs) ≡ map (resolved_alternative sense) xs

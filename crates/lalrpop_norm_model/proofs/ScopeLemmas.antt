@@ -104,7 +104,6 @@ module _ (rs : List WrittenRule) (S : IsScoped rs) where
       kind_resolved : (before after : ℕ) (k : Kind) → is_scoped_kind rs args k ≡ true → IsResolvedIn (references rs) (read_kind R before after k)
       kind_resolved before after (written.nonterminal n) h = named n before after h
       kind_resolved before after (written.ambiguous_id n) h = absurd (cc h)
-      kind_resolved before after (written.terminal t) h = tt
       kind_resolved before after (written.group ps) h = parts_resolved before after ps h
       kind_resolved before after (written.call n ps) h =
           let behind = (and_parts (not (is_argument args n)) (is_macro_for ps (rule_named rs n) && are_scoped rs args ps) h).1 in
@@ -113,9 +112,7 @@ module _ (rs : List WrittenRule) (S : IsScoped rs) where
       kind_resolved before after (written.chosen p) h = part_resolved before after p h
       kind_resolved before after (written.named n p) h = part_resolved before after p h
       kind_resolved before after (written.tupled ns p) h = part_resolved before after p h
-      kind_resolved before after written.lookahead h = tt
-      kind_resolved before after written.lookbehind h = tt
-      kind_resolved before after written.error_terminal h = tt
+      kind_resolved before after _ h = tt
 
       part_resolved : (before after : ℕ) (p : Part) → is_scoped rs args p ≡ true → IsResolvedIn (references rs) (read_part R before after p)
       part_resolved before after (at s k) h = kind_resolved before after k h

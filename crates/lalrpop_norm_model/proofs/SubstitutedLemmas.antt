@@ -16,42 +16,6 @@ use Rattle.lalrpop_norm_model.specs.MadeRules.{kind_of, argument_kind, or_name, 
 use Rattle.lalrpop_norm_model.specs.PlainRules.{rule_of_item, all_rules}
 use Rattle.lalrpop_norm_model.specs.Laws.{ArgumentsAreSubstituted}
 
--- ---- readers that agree
-
--- two readers that read each name alike read each symbol alike
-module _ (Q R : Reader) (same : (n : Name) (b a before after : ℕ) → read_name Q b a n ≡ read_name R before after n) where
-  mutual
-    pub kind_agrees : (b a before after : ℕ) (k : Kind) → read_kind Q b a k ≡ read_kind R before after k
-    kind_agrees b a before after (written.nonterminal n) = same n b a before after
-    kind_agrees b a before after (written.ambiguous_id n) = same n b a before after
-    kind_agrees b a before after (written.terminal t) = refl
-    kind_agrees b a before after (written.group ps) = ap group (parts_agree b a before after ps)
-    kind_agrees b a before after (written.call n ps) = ap (call n) (parts_agree b a before after ps)
-    kind_agrees b a before after (written.repeated op p) = ap (repeat_of op) (part_agrees b a before after p)
-    kind_agrees b a before after (written.chosen p) = ap (wrapped chosen) (part_agrees b a before after p)
-    kind_agrees b a before after (written.named n p) = ap (wrapped (named n.mutable n.name)) (part_agrees b a before after p)
-    kind_agrees b a before after (written.tupled ns p) = ap (wrapped (tuple (closed_patterns_of ns))) (part_agrees b a before after p)
-    kind_agrees b a before after written.lookahead = refl
-    kind_agrees b a before after written.lookbehind = refl
-    kind_agrees b a before after written.error_terminal = refl
-
-    pub part_agrees : (b a before after : ℕ) (p : Part) → read_part Q b a p ≡ read_part R before after p
-    part_agrees b a before after (at s k) = kind_agrees b a before after k
-
-    pub parts_agree : (b a before after : ℕ) (ps : Parts) → read_parts Q b a ps ≡ read_parts R before after ps
-    parts_agree b a before after no_parts = refl
-    parts_agree b a before after (part_and p ps) =
-        ap₂ symbol_and
-        (part_agrees b (a + count_parts Q.is_own ps) before (after + count_parts R.is_own ps) p)
-        (parts_agree (b + count_part Q.is_own p) a (before + count_part R.is_own p) after ps)
-
--- what is before and after counts for nothing where no reference has a bound
-pub flat_part : (b a before after : ℕ) (p : Part) → read_part flat_reader b a p ≡ read_part flat_reader before after p
-flat_part = part_agrees flat_reader flat_reader (λ n b a before after. refl)
-
-pub flat_parts : (b a before after : ℕ) (ps : Parts) → read_parts flat_reader b a ps ≡ read_parts flat_reader before after ps
-flat_parts = parts_agree flat_reader flat_reader (λ n b a before after. refl)
-
 -- ---- arguments substituted
 
 -- R reads a name as Q reads what is substituted for it
@@ -61,16 +25,13 @@ module _ (Q R : Reader) (argument : Name → Option Kind)
     kind_put : (b a before after : ℕ) (k : Kind) → read_kind Q b a (kind_substituted argument k) ≡ read_kind R before after k
     kind_put b a before after (written.nonterminal n) = same n b a before after
     kind_put b a before after (written.ambiguous_id n) = same n b a before after
-    kind_put b a before after (written.terminal t) = refl
     kind_put b a before after (written.group ps) = ap group (parts_put b a before after ps)
     kind_put b a before after (written.call n ps) = ap (call n) (parts_put b a before after ps)
     kind_put b a before after (written.repeated op p) = ap (repeat_of op) (part_put b a before after p)
     kind_put b a before after (written.chosen p) = ap (wrapped chosen) (part_put b a before after p)
     kind_put b a before after (written.named n p) = ap (wrapped (named n.mutable n.name)) (part_put b a before after p)
     kind_put b a before after (written.tupled ns p) = ap (wrapped (tuple (closed_patterns_of ns))) (part_put b a before after p)
-    kind_put b a before after written.lookahead = refl
-    kind_put b a before after written.lookbehind = refl
-    kind_put b a before after written.error_terminal = refl
+    kind_put b a before after _ = refl
 
     part_put : (b a before after : ℕ) (p : Part) → read_part Q b a (substituted argument p) ≡ read_part R before after p
     part_put b a before after (at s k) = kind_put b a before after k
@@ -81,6 +42,28 @@ module _ (Q R : Reader) (argument : Name → Option Kind)
         ap₂ symbol_and
         (part_put b (a + count_parts Q.is_own (all_substituted argument ps)) before (after + count_parts R.is_own ps) p)
         (parts_put (b + count_part Q.is_own (substituted argument p)) a (before + count_part R.is_own p) after ps)
+
+-- ---- readers that agree
+
+-- two readers that read each name alike read each symbol alike: both as they read it with names in place of arguments
+module _ (Q R : Reader) (same : (n : Name) (b a before after : ℕ) → read_name Q b a n ≡ read_name R before after n) where
+  as_itself : (n : Name) (b a before after : ℕ) → read_name Q b a n ≡ read_name Q before after n
+  as_itself n b a before after = same n b a 0 0 ∙ sym (same n before after 0 0)
+
+  pub part_agrees : (b a before after : ℕ) (p : Part) → read_part Q b a p ≡ read_part R before after p
+  part_agrees b a before after p = sym (part_put Q Q (λ n. None) as_itself b a b a p) ∙ part_put Q R (λ n. None) same b a before after p
+
+  pub parts_agree : (b a before after : ℕ) (ps : Parts) → read_parts Q b a ps ≡ read_parts R before after ps
+  parts_agree b a before after ps = sym (parts_put Q Q (λ n. None) as_itself b a b a ps) ∙ parts_put Q R (λ n. None) same b a before after ps
+
+-- what is before and after counts for nothing where no reference has a bound
+pub flat_part : (b a before after : ℕ) (p : Part) → read_part flat_reader b a p ≡ read_part flat_reader before after p
+flat_part = part_agrees flat_reader flat_reader (λ n b a before after. refl)
+
+pub flat_parts : (b a before after : ℕ) (ps : Parts) → read_parts flat_reader b a ps ≡ read_parts flat_reader before after ps
+flat_parts = parts_agree flat_reader flat_reader (λ n b a before after. refl)
+
+-- ---- the arguments of a macro
 
 -- what is substituted for a name reads as what the name is bound to
 argument_here : (n : Name) (b a before after : ℕ) (p : Part) (o : Option Kind) (q : Option ClosedSymbol) (x : Bool) →

@@ -7,7 +7,7 @@ use Rattle.lalrpop_norm_tree_names.specs.declared.names.TerminalLiteral.{Termina
 use Rattle.lalrpop_norm_tree_names.specs.declared.names.TerminalLiteral.TheVariants.{Quoted, Regex}
 use Rattle.lalrpop_norm_tree.specs.declared.symbol.RepeatOp.{RepeatOp}
 use Rattle.lalrpop_norm_tree.specs.declared.symbol.RepeatOp.TheVariants.{Star, Plus, Question, Times}
-use Rattle.lalrpop_norm_tree.specs.Symbols.{ArgumentPattern, one_name, several, ArgumentPatterns, no_arguments, argument_and, Kind, group, ambiguous_id, terminal, nonterminal, call, repeated, chosen, named, tupled, lookahead, lookbehind, error_terminal, Part, at, Parts, no_parts, part_and}
+use Rattle.lalrpop_norm_tree.specs.Symbols.{ArgumentPattern, one_name, several, ArgumentPatterns, no_arguments, argument_and, Kind, group, ambiguous_id, terminal, nonterminal, call, repeated, chosen, named, tupled, Part, at, Parts, no_parts, part_and}
 use Rattle.lalrpop_norm_tree_names.specs.Texts as displayed
 use Rattle.lalrpop_norm_tree_names.specs.Texts.{joined}
 use Rattle.lalrpop_norm_tree.specs.SymbolTexts.{kind_text, part_text, part_texts, op_text, name_text, argument_pattern_text, argument_pattern_texts}
@@ -56,9 +56,7 @@ module _ (name : Name → Option ℕ → Name) (by_name : (n : Name) → name n 
     kind_displayed before after (named n p) = ap (λ t. name_text n ++ codes ":" ++ t) (part_displayed before after p)
     kind_displayed before after (tupled ns p) =
         ap₂ (λ ts t. (codes "(" ++ joined (codes ", ") ts ++ codes ")") ++ codes ":" ++ t) (patterns_displayed ns) (part_displayed before after p)
-    kind_displayed before after lookahead = refl
-    kind_displayed before after lookbehind = refl
-    kind_displayed before after error_terminal = refl
+    kind_displayed before after _ = refl
 
     pub part_displayed : (before after : ℕ) (p : Part) → closed_text name (read_part flat_reader before after p) ≡ part_text p
     part_displayed before after (at s k) = kind_displayed before after k

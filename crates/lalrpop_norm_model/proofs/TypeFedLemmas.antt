@@ -5,13 +5,14 @@ use Rattle.lalrpop_norm_tree.specs.Items.{RuleData, GrammarData}
 use Rattle.lalrpop_norm_tree_parts.specs.Paths.{PathData}
 use Rattle.lalrpop_norm_tree_parts.specs.Reprs as lowered
 use Rattle.lalrpop_norm_tree_parts.specs.Reprs.{ReprData, Reprs}
-use Rattle.lalrpop_norm_tree.specs.Symbols.{Kind, group, ambiguous_id, terminal, nonterminal, call, repeated, chosen, named, tupled, lookahead, lookbehind, error_terminal, at}
+use Rattle.lalrpop_norm_tree.specs.Symbols.{Kind, terminal, nonterminal, error_terminal}
 use Rattle.lalrpop_norm_tree.specs.Types.{TypeData, TypesData, MaybeType, tuple, slice, nominal, reference, trait_object, of_lifetime, id, of_symbol, function, no_types, type_and, no_type, returns}
 use Rattle.lalrpop_norm_theory.specs.Rounds.{In, IsDistinct}
+use Rattle.lalrpop_norm_model.specs.Wrappers.{wrapped_kind}
 use Rattle.lalrpop_norm_model.specs.PlainRules.{all_rules}
 use Rattle.lalrpop_norm_model.specs.Expanded.{rule_names}
 use Rattle.lalrpop_norm_model.specs.TypeRelation.{associated_of, IsRule, TypeClause, makes, locates, type_clauses}
-use Rattle.lalrpop_norm_model.specs.TypeTables.{Table, kind_value, path_value, both, type_value, types_value, return_value, clause_value}
+use Rattle.lalrpop_norm_model.specs.TypeTables.{Table, leaf_type, grammar_types, path_value, both, type_value, types_value, return_value, clause_value}
 use Rattle.lalrpop_norm_model.specs.TypeRounds.{TypeRow, table_of, first_value, taken, visit, visits, type_rounds, IsEnd}
 use Rattle.lalrpop_norm_model.proofs.TypeRoundLemmas.{first_made}
 
@@ -37,23 +38,15 @@ path_more : (a : Option (List ℕ × List ℕ)) (p : PathData) (v w : Option Rep
 path_more (Some a) p v w more x e = e
 path_more None p v w more x e = map_more (lowered.nominal p) v w more x e
 
-kind_more : (g : GrammarData) (f h : Table) → Grows f h → (k : Kind) → More (kind_value g f k) (kind_value g h k)
-kind_more g f h grows (terminal t) x e = e
-kind_more g f h grows error_terminal x e = e
-kind_more g f h grows (nonterminal n) x e = grows n x e
-kind_more g f h grows (chosen (at s k)) x e = kind_more g f h grows k x e
-kind_more g f h grows (named n (at s k)) x e = kind_more g f h grows k x e
-kind_more g f h grows (tupled ns (at s k)) x e = kind_more g f h grows k x e
-kind_more g f h grows (group ps) x e = absurd cc
-kind_more g f h grows (ambiguous_id a) x e = absurd cc
-kind_more g f h grows (call n ps) x e = absurd cc
-kind_more g f h grows (repeated op p) x e = absurd cc
-kind_more g f h grows lookahead x e = absurd cc
-kind_more g f h grows lookbehind x e = absurd cc
+leaf_more : (g : GrammarData) (f h : Table) → Grows f h → (k : Kind) → More (leaf_type (grammar_types g f) k) (leaf_type (grammar_types g h) k)
+leaf_more g f h grows (terminal t) x e = e
+leaf_more g f h grows error_terminal x e = e
+leaf_more g f h grows (nonterminal n) x e = grows n x e
+leaf_more g f h grows _ x e = absurd cc
 
 mutual
   type_more : (g : GrammarData) (f h : Table) → Grows f h → (t : TypeData) → More (type_value g f t) (type_value g h t)
-  type_more g f h grows (of_symbol k) x e = kind_more g f h grows k x e
+  type_more g f h grows (of_symbol k) x e = leaf_more g f h grows (wrapped_kind k) x e
   type_more g f h grows (nominal p ts) x e = path_more (associated_of g p) p (types_value g f ts) (types_value g h ts) (types_more g f h grows ts) x e
   type_more g f h grows (id a) x e = e
   type_more g f h grows (tuple ts) x e = map_more lowered.tuple (types_value g f ts) (types_value g h ts) (types_more g f h grows ts) x e

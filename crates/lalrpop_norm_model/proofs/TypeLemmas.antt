@@ -5,7 +5,7 @@ use Rattle.lalrpop_norm_tree.specs.LoweredTypes.{named_path}
 use Rattle.lalrpop_norm_tree_parts.specs.Paths.{PathData}
 use Rattle.lalrpop_norm_tree_parts.specs.Reprs as lowered
 use Rattle.lalrpop_norm_tree_parts.specs.Reprs.{ReprData, Reprs, MaybeRepr}
-use Rattle.lalrpop_norm_tree.specs.Symbols.{Kind, group, ambiguous_id, terminal, nonterminal, call, repeated, chosen, named, tupled, lookahead, lookbehind, error_terminal, at}
+use Rattle.lalrpop_norm_tree.specs.Symbols.{Kind, terminal, nonterminal, chosen, named, tupled, error_terminal, at}
 use Rattle.lalrpop_norm_tree.specs.Types.{TypeData, TypesData, MaybeType, tuple, slice, nominal, reference, trait_object, of_lifetime, id, of_symbol, function, no_types, type_and, no_type, returns}
 use Rattle.lalrpop_norm_model.specs.TerminalTypes.{terminal_type, recovery_type}
 use Rattle.lalrpop_norm_model.specs.TypeRelation.{associated_of, TypeClause, makes, locates, Has, by_clause, Makes, makes_type, makes_location, Gives, of_terminal, of_error, of_nonterminal, of_chosen, of_named, of_tupled, Means, means_symbol, means_associated, means_nominal, means_name, means_tuple, means_slice, means_reference, means_object, means_lifetime, means_function, MeanAll, mean_none, mean_and, MeansReturn, means_nothing, means_returned, IsFunctional}
@@ -52,12 +52,7 @@ mutual
   kind_gives g f sound (chosen (at s k)) x e = of_chosen s k x (kind_gives g f sound k x e)
   kind_gives g f sound (named n (at s k)) x e = of_named n s k x (kind_gives g f sound k x e)
   kind_gives g f sound (tupled ns (at s k)) x e = of_tupled ns s k x (kind_gives g f sound k x e)
-  kind_gives g f sound (group ps) x e = absurd cc
-  kind_gives g f sound (ambiguous_id a) x e = absurd cc
-  kind_gives g f sound (call n ps) x e = absurd cc
-  kind_gives g f sound (repeated op p) x e = absurd cc
-  kind_gives g f sound lookahead x e = absurd cc
-  kind_gives g f sound lookbehind x e = absurd cc
+  kind_gives g f sound _ x e = absurd cc
 
 path_means : (g : GrammarData) (p : PathData) (ts : TypesData) (a : Option (List ℕ × List ℕ)) (v : Option Reprs) → associated_of g p ≡ a →
     ((xs : Reprs) → v ≡ Some xs → MeanAll g ts xs) → (x : ReprData) → path_value a p v ≡ Some x → Means g (nominal p ts) x

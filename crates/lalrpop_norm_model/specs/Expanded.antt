@@ -12,12 +12,12 @@ use Rattle.lalrpop_norm_tree.specs.Items.{InternTokenData, MatchTokenData, ItemD
 use Rattle.lalrpop_norm_tree.specs.Items.{intern_item}
 use Rattle.lalrpop_norm_tree.specs.LoweredTypes.{holds_symbol}
 use Rattle.lalrpop_norm_tree_parts.specs.Reprs.{ReprData}
-use Rattle.lalrpop_norm_tree.specs.Symbols.{Kind, Part, Parts, group, ambiguous_id, terminal, nonterminal, call, repeated, chosen}
-use Rattle.lalrpop_norm_tree.specs.Symbols.{named, tupled, lookahead, lookbehind, error_terminal, at, no_parts, part_and}
+use Rattle.lalrpop_norm_tree.specs.Symbols.{Kind, Part, Parts, terminal, nonterminal, error_terminal, no_parts, part_and}
 use Rattle.lalrpop_norm_tree.specs.Types.{TypeData, TypesData, MaybeType, tuple, slice, nominal, reference, trait_object}
 use Rattle.lalrpop_norm_tree.specs.Types.{of_lifetime, id, of_symbol, function, no_types, type_and, no_type, returns}
 use Rattle.lalrpop_norm_tree.specs.Types.{ParameterData}
 use Rattle.lalrpop_norm_theory.specs.Rounds.{In, IsDistinct}
+use Rattle.lalrpop_norm_model.specs.Wrappers.{wrapped_kind, wrapped_part}
 use Rattle.lalrpop_norm_model.specs.Features.{Features, is_active}
 use Rattle.lalrpop_norm_model.specs.PlainRules.{all_rules}
 use Rattle.lalrpop_norm_model.specs.Entries.{group_entries, user_names}
@@ -32,48 +32,37 @@ is_plain_terminal (Literal l) = true
 is_plain_terminal (Bare a) = true
 is_plain_terminal Error = false
 
--- a symbol of an expanded grammar (a plain one), under selected, named and tuple wrappers: a terminal other than the error
--- terminal, a nonterminal, or `!`
-abbrev mutual
-  pub is_plain_kind : Kind → Bool
-  is_plain_kind (terminal t) = is_plain_terminal t
-  is_plain_kind (nonterminal n) = true
-  is_plain_kind error_terminal = true
-  is_plain_kind (chosen p) = is_plain p
-  is_plain_kind (named n p) = is_plain p
-  is_plain_kind (tupled ns p) = is_plain p
-  is_plain_kind (group ps) = false
-  is_plain_kind (ambiguous_id a) = false
-  is_plain_kind (call n ps) = false
-  is_plain_kind (repeated op p) = false
-  is_plain_kind lookahead = false
-  is_plain_kind lookbehind = false
+-- a terminal other than the error terminal, a nonterminal whose name passes the test, or `!`
+abbrev pub is_plain_leaf : (List ℕ → Bool) → Kind → Bool
+is_plain_leaf named_well (terminal t) = is_plain_terminal t
+is_plain_leaf named_well (nonterminal n) = named_well n
+is_plain_leaf named_well error_terminal = true
+is_plain_leaf named_well _ = false
 
-  pub is_plain : Part → Bool
-  is_plain (at s k) = is_plain_kind k
+abbrev pub any_name : List ℕ → Bool
+any_name n = true
+
+-- a symbol of an expanded grammar (a plain one), under selected, named and tuple wrappers
+abbrev pub is_plain_kind : Kind → Bool
+is_plain_kind k = is_plain_leaf any_name (wrapped_kind k)
+
+abbrev pub is_plain : Part → Bool
+is_plain p = is_plain_leaf any_name (wrapped_part p)
 
 abbrev pub are_plain : Parts → Bool
 are_plain no_parts = true
 are_plain (part_and p ps) = is_plain p && are_plain ps
 
--- the nonterminals in a plain symbol
-abbrev mutual
-  pub names_in_kind : Kind → List (List ℕ)
-  names_in_kind (nonterminal n) = n ∷ []
-  names_in_kind (chosen p) = names_in p
-  names_in_kind (named n p) = names_in p
-  names_in_kind (tupled ns p) = names_in p
-  names_in_kind (terminal t) = []
-  names_in_kind error_terminal = []
-  names_in_kind (group ps) = []
-  names_in_kind (ambiguous_id a) = []
-  names_in_kind (call n ps) = []
-  names_in_kind (repeated op p) = []
-  names_in_kind lookahead = []
-  names_in_kind lookbehind = []
+abbrev pub leaf_names : Kind → List (List ℕ)
+leaf_names (nonterminal n) = n ∷ []
+leaf_names _ = []
 
-  pub names_in : Part → List (List ℕ)
-  names_in (at s k) = names_in_kind k
+-- the nonterminals in a plain symbol
+abbrev pub names_in_kind : Kind → List (List ℕ)
+names_in_kind k = leaf_names (wrapped_kind k)
+
+abbrev pub names_in : Part → List (List ℕ)
+names_in p = leaf_names (wrapped_part p)
 
 abbrev pub names_in_parts : Parts → List (List ℕ)
 names_in_parts no_parts = []

@@ -19,10 +19,11 @@ abbrev pub without_first : List ℕ → Attributes → Attributes
 without_first name no_attributes = no_attributes
 without_first name (attribute_and a rest) = if is_named name a then rest else attribute_and a (without_first name rest)
 
--- A symbol with the name that `level` gives in place of each recursive occurrence, by how many there are before and after it.
+-- A symbol with what `level` gives in place of each recursive occurrence (`own`), by how many there are before and after it; all
+-- else stays.
 abbrev mutual
-  pub leveled_kind : (List ℕ → Bool) → (ℕ → ℕ → List ℕ) → ℕ → ℕ → Kind → Kind
-  leveled_kind own level before after (nonterminal n) = nonterminal (if own n then level before after else n)
+  pub leveled_kind : (List ℕ → Bool) → (ℕ → ℕ → Kind) → ℕ → ℕ → Kind → Kind
+  leveled_kind own level before after (nonterminal n) = if own n then level before after else nonterminal n
   leveled_kind own level before after (group ps) = group (leveled_parts own level before after ps)
   leveled_kind own level before after (call n ps) = call n (leveled_parts own level before after ps)
   leveled_kind own level before after (repeated op p) = repeated op (leveled_part own level before after p)
@@ -35,14 +36,18 @@ abbrev mutual
   leveled_kind own level before after lookbehind = lookbehind
   leveled_kind own level before after error_terminal = error_terminal
 
-  pub leveled_part : (List ℕ → Bool) → (ℕ → ℕ → List ℕ) → ℕ → ℕ → Part → Part
+  pub leveled_part : (List ℕ → Bool) → (ℕ → ℕ → Kind) → ℕ → ℕ → Part → Part
   leveled_part own level before after (at s k) = at s (leveled_kind own level before after k)
 
-  pub leveled_parts : (List ℕ → Bool) → (ℕ → ℕ → List ℕ) → ℕ → ℕ → Parts → Parts
+  pub leveled_parts : (List ℕ → Bool) → (ℕ → ℕ → Kind) → ℕ → ℕ → Parts → Parts
   leveled_parts own level before after no_parts = no_parts
   leveled_parts own level before after (part_and p ps) =
       part_and (leveled_part own level before (after + count_parts own ps) p)
       (leveled_parts own level (before + count_part own p) after ps)
+
+-- the name that `level` gives, as a symbol
+abbrev pub level_nonterminal : (ℕ → ℕ → List ℕ) → ℕ → ℕ → Kind
+level_nonterminal level before after = nonterminal (level before after)
 
 -- the name of a level of a rule
 abbrev pub level_of_rule : RuleData → List (Option Leveled) → ℕ → List ℕ
@@ -56,7 +61,7 @@ is_own r n = is_nil r.args && bytes_eq n r.name.0
 abbrev pub level_alternative : RuleData → List (Option Leveled) → Leveled → AlternativeData
 level_alternative r ps a = record a.alternative {
   parts = leveled_parts (is_own r)
-      (λ before after. level_of_rule r ps (own_bound a.side a.level (previous_level ps a.level) before after))
+      (level_nonterminal (λ before after. level_of_rule r ps (own_bound a.side a.level (previous_level ps a.level) before after)))
       0 0 a.alternative.parts;
   attributes = without_first (codes "assoc") (without_first (codes "precedence") a.alternative.attributes);
 }

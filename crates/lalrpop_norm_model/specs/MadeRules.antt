@@ -10,8 +10,9 @@ use Rattle.lalrpop_norm_tree.specs.declared.symbol.RepeatOp.TheVariants.{Star, P
 use Rattle.lalrpop_norm_tree_parts.specs.Attributes.{Attributes, attribute, empty, no_attributes, attribute_and}
 use Rattle.lalrpop_norm_tree_parts.specs.Paths.{PathData}
 use Rattle.lalrpop_norm_tree_parts.specs.Accessors.{path_of}
-use Rattle.lalrpop_norm_tree.specs.Symbols.{Kind, Part, Parts, group, ambiguous_id, terminal, nonterminal, call, repeated, chosen}
-use Rattle.lalrpop_norm_tree.specs.Symbols.{named, tupled, lookahead, lookbehind, error_terminal, at, no_parts, part_and, parts_of}
+use Rattle.lalrpop_norm_tree.specs.Symbols.{Kind, Part, Parts, group, ambiguous_id, nonterminal, call, repeated, chosen}
+use Rattle.lalrpop_norm_tree.specs.Symbols.{named, tupled, lookahead, lookbehind, at, no_parts, part_and, parts_of}
+use Rattle.lalrpop_norm_tree.specs.Traversal.{map_kind, map_part, map_parts}
 use Rattle.lalrpop_norm_tree.specs.Types.{TypeData, TypesData, MaybeType, tuple, slice, nominal, reference, trait_object}
 use Rattle.lalrpop_norm_tree.specs.Types.{of_lifetime, id, of_symbol, function, no_types, type_and, no_type, returns, types_of}
 use Rattle.lalrpop_norm_tree.specs.Items.{Action, user_code, lookahead_code, lookbehind_code, AlternativeData, RuleData, private}
@@ -28,11 +29,15 @@ kind_of (at s k) = k
 abbrev pub span_of : Part → Span
 span_of (at s k) = s
 
+-- a name, or a tuple of names, is before the symbol
+abbrev pub is_naming : Kind → Bool
+is_naming (named n p) = true
+is_naming (tupled ns p) = true
+is_naming _ = false
+
 -- a symbol with a name or a tuple of names for its value before it
 abbrev pub names_value : Part → Bool
-names_value (at s (named n p)) = true
-names_value (at s (tupled ns p)) = true
-names_value _ = false
+names_value (at s k) = is_naming k
 
 abbrev pub some_name_value : Parts → Bool
 some_name_value no_parts = false
@@ -175,27 +180,19 @@ or_name n None = nonterminal n
 or_name n (Some k) = k
 
 -- a symbol with the arguments substituted; one that is substituted is in place of its name
-abbrev mutual
-  pub substituted : (List ℕ → Option Kind) → Part → Part
-  substituted argument (at s k) = at s (kind_substituted argument k)
+abbrev pub substituted_leaf : (List ℕ → Option Kind) → Kind → Kind
+substituted_leaf argument (nonterminal n) = or_name n (argument n)
+substituted_leaf argument (ambiguous_id n) = or_name n (argument n)
+substituted_leaf argument k = k
 
-  pub kind_substituted : (List ℕ → Option Kind) → Kind → Kind
-  kind_substituted argument (nonterminal n) = or_name n (argument n)
-  kind_substituted argument (ambiguous_id n) = or_name n (argument n)
-  kind_substituted argument (terminal t) = terminal t
-  kind_substituted argument (group ps) = group (all_substituted argument ps)
-  kind_substituted argument (call n ps) = call n (all_substituted argument ps)
-  kind_substituted argument (repeated op p) = repeated op (substituted argument p)
-  kind_substituted argument (chosen p) = chosen (substituted argument p)
-  kind_substituted argument (named n p) = named n (substituted argument p)
-  kind_substituted argument (tupled ns p) = tupled ns (substituted argument p)
-  kind_substituted argument lookahead = lookahead
-  kind_substituted argument lookbehind = lookbehind
-  kind_substituted argument error_terminal = error_terminal
+abbrev pub kind_substituted : (List ℕ → Option Kind) → Kind → Kind
+kind_substituted argument = map_kind (substituted_leaf argument)
 
-  pub all_substituted : (List ℕ → Option Kind) → Parts → Parts
-  all_substituted argument no_parts = no_parts
-  all_substituted argument (part_and p ps) = part_and (substituted argument p) (all_substituted argument ps)
+abbrev pub substituted : (List ℕ → Option Kind) → Part → Part
+substituted argument = map_part (substituted_leaf argument)
+
+abbrev pub all_substituted : (List ℕ → Option Kind) → Parts → Parts
+all_substituted argument = map_parts (substituted_leaf argument)
 
 abbrev pub type_of_name : List ℕ → Option Kind → TypeData
 type_of_name n None = nominal (path_of (n ∷ [])) no_types
@@ -270,10 +267,4 @@ made_rules value macros (at s (call n ps)) = instance_of value s (macro_named ma
 made_rules value macros (at s (repeated op p)) = repeat_rule s op p ∷ []
 made_rules value macros (at s lookahead) = location_rule s lookahead lookahead_code ∷ []
 made_rules value macros (at s lookbehind) = location_rule s lookbehind lookbehind_code ∷ []
-made_rules value macros (at s (ambiguous_id a)) = []
-made_rules value macros (at s (terminal t)) = []
-made_rules value macros (at s (nonterminal n)) = []
-made_rules value macros (at s (chosen p)) = []
-made_rules value macros (at s (named n p)) = []
-made_rules value macros (at s (tupled ns p)) = []
-made_rules value macros (at s error_terminal) = []
+made_rules value macros _ = []

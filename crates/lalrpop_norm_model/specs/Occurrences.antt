@@ -1,32 +1,23 @@
 -- Recursive occurrences (`own`): the references of a rule to itself, and the bound of each.
 use Rattle.std.specs.Prelude.{ℕ, zero, suc, ◌+◌, Bool, List, Option, unwrap_or, if◌then◌else◌}
-use Rattle.lalrpop_norm_tree.specs.Symbols.{Kind, Part, Parts, group, ambiguous_id, terminal, nonterminal, call, repeated, chosen}
-use Rattle.lalrpop_norm_tree.specs.Symbols.{named, tupled, lookahead, lookbehind, error_terminal, at, no_parts, part_and}
+use Rattle.lalrpop_norm_tree.specs.Symbols.{Kind, Part, Parts, nonterminal}
+use Rattle.lalrpop_norm_model.specs.Gathered.{gathered_kind, gathered_part, gathered_parts}
 use Rattle.lalrpop_norm_model.specs.Levels.{Side, left, right, neither, every}
 
 -- How many recursive occurrences a symbol holds, also in macro arguments, groups, repeats and wrapped symbols; `own` is the test
 -- of the name.
-abbrev mutual
-  pub count_kind : (List ℕ → Bool) → Kind → ℕ
-  count_kind own (nonterminal n) = if own n then 1 else 0
-  count_kind own (group ps) = count_parts own ps
-  count_kind own (call n ps) = count_parts own ps
-  count_kind own (repeated op p) = count_part own p
-  count_kind own (chosen p) = count_part own p
-  count_kind own (named n p) = count_part own p
-  count_kind own (tupled ns p) = count_part own p
-  count_kind own (ambiguous_id a) = 0
-  count_kind own (terminal t) = 0
-  count_kind own lookahead = 0
-  count_kind own lookbehind = 0
-  count_kind own error_terminal = 0
+abbrev pub own_or_inside : (List ℕ → Bool) → Kind → ℕ → ℕ
+own_or_inside own (nonterminal n) inside = if own n then 1 else 0
+own_or_inside own _ inside = inside
 
-  pub count_part : (List ℕ → Bool) → Part → ℕ
-  count_part own (at s k) = count_kind own k
+abbrev pub count_kind : (List ℕ → Bool) → Kind → ℕ
+count_kind own = gathered_kind (own_or_inside own) 0 (λ m n. m + n)
 
-  pub count_parts : (List ℕ → Bool) → Parts → ℕ
-  count_parts own no_parts = 0
-  count_parts own (part_and p ps) = count_part own p + count_parts own ps
+abbrev pub count_part : (List ℕ → Bool) → Part → ℕ
+count_part own = gathered_part (own_or_inside own) 0 (λ m n. m + n)
+
+abbrev pub count_parts : (List ℕ → Bool) → Parts → ℕ
+count_parts own = gathered_parts (own_or_inside own) 0 (λ m n. m + n)
 
 -- of those numbered from 0, the first has the current level, any other the previous one
 abbrev pub first_current : ℕ → ℕ → ℕ → ℕ

@@ -2,14 +2,15 @@
 -- that is desugared is rewritten to the nonterminal of its text.
 use Rattle.std.specs.Prelude.{ℕ, Bool, List, [], ◌∷◌, ◌++◌, ◌≡◌, map, flat_map, filter, not}
 use Rattle.std.specs.Prelude.{if◌then◌else◌}
-use Rattle.lalrpop_norm_tree.specs.Symbols.{Part, Parts, group, ambiguous_id, terminal, nonterminal, call, repeated, chosen}
-use Rattle.lalrpop_norm_tree.specs.Symbols.{named, tupled, lookahead, lookbehind, error_terminal, at, no_parts, part_and}
+use Rattle.lalrpop_norm_tree_names.specs.declared.names.Span.{Span}
+use Rattle.lalrpop_norm_tree.specs.Symbols.{Kind, Part, Parts, at}
+use Rattle.lalrpop_norm_tree.specs.Traversal.{fold_part, fold_parts}
 use Rattle.lalrpop_norm_tree.specs.Items.{AlternativeData, RuleData, ItemData, GrammarData, match_item, extern_item, intern_item}
 use Rattle.lalrpop_norm_tree.specs.Items.{rule_item, use_item}
 use Rattle.lalrpop_norm_theory.specs.Same.{same_symbol}
 use Rattle.lalrpop_norm_theory.specs.Rounds.{Round, rounds, all_rules_made}
 use Rattle.lalrpop_norm_model.specs.Reading.{read_part}
-use Rattle.lalrpop_norm_model.specs.Replaced.{all_replaced}
+use Rattle.lalrpop_norm_model.specs.Replaced.{is_desugared, all_replaced}
 use Rattle.lalrpop_norm_model.specs.Grammars.{ConditionValue, is_nil}
 use Rattle.lalrpop_norm_model.specs.MadeRules.{flat_reader, made_rules}
 
@@ -24,26 +25,16 @@ replaced_rule r = record r { alternatives = map replaced_alternative r.alternati
 
 -- ---- what is reached
 
--- A call, group or repeat reaches (`met`) what its parts reach, then itself; a wrapped symbol what its inner symbol reaches; a
--- location symbol itself; all else nothing.
-abbrev mutual
-  pub met : Part → List Part
-  met (at s (group ps)) = all_met ps ++ at s (group ps) ∷ []
-  met (at s (call n ps)) = all_met ps ++ at s (call n ps) ∷ []
-  met (at s (repeated op p)) = met p ++ at s (repeated op p) ∷ []
-  met (at s (chosen p)) = met p
-  met (at s (named n p)) = met p
-  met (at s (tupled ns p)) = met p
-  met (at s lookahead) = at s lookahead ∷ []
-  met (at s lookbehind) = at s lookbehind ∷ []
-  met (at s (ambiguous_id a)) = []
-  met (at s (terminal t)) = []
-  met (at s (nonterminal n)) = []
-  met (at s error_terminal) = []
+-- what is reached in a symbol, then the symbol itself if it is desugared
+abbrev pub then_itself : Span → Kind → List Part → List Part
+then_itself s k inside = if is_desugared k then inside ++ at s k ∷ [] else inside
 
-  pub all_met : Parts → List Part
-  all_met no_parts = []
-  all_met (part_and p ps) = met p ++ all_met ps
+-- A symbol reaches (`met`) what its parts reach, then itself if it is desugared.
+abbrev pub met : Part → List Part
+met = fold_part then_itself [] (λ ms ns. ms ++ ns)
+
+abbrev pub all_met : Parts → List Part
+all_met = fold_parts then_itself [] (λ ms ns. ms ++ ns)
 
 abbrev pub met_in_rule : RuleData → List Part
 met_in_rule r = flat_map (λ (a : AlternativeData). all_met a.parts) r.alternatives

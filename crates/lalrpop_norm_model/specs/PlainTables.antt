@@ -1,8 +1,8 @@
 -- The rules of the expanded grammar (plain rules) as a lowered grammar: their names, and their alternatives as productions.
 use Rattle.std.specs.Prelude.{◌≡◌, ℕ, Bool, true, false, List, [], ◌∷◌, length, map, drop}
 use Rattle.lalrpop_norm_tree.specs.declared.symbol.RepeatOp.TheVariants.{Star, Plus}
-use Rattle.lalrpop_norm_tree.specs.Symbols.{Kind, Part, Parts, group, ambiguous_id, terminal, nonterminal, call, repeated, chosen}
-use Rattle.lalrpop_norm_tree.specs.Symbols.{named, tupled, lookahead, lookbehind, error_terminal, at, no_parts, part_and}
+use Rattle.lalrpop_norm_tree.specs.Symbols.{Kind, Part, Parts, terminal, nonterminal, repeated, chosen}
+use Rattle.lalrpop_norm_tree.specs.Symbols.{named, tupled, error_terminal, at, no_parts, part_and}
 use Rattle.lalrpop_norm_tree.specs.Items.{AlternativeData, RuleData, GrammarData}
 use Rattle.lalrpop_norm_tree.specs.SymbolTexts.{kind_text, part_text}
 use Rattle.lalrpop_norm_theory.specs.Symbols as theory
@@ -46,13 +46,13 @@ abbrev pub closed_parts : AlternativeData → ClosedSymbols
 closed_parts a = read_all flat_reader a.parts
 
 -- a symbol without what is wrapped around it
-abbrev pub unwrapped : ClosedSymbol → ClosedSymbol
-unwrapped (wrapped w g) = unwrapped g
-unwrapped g = g
+abbrev pub ground_unwrapped : ClosedSymbol → ClosedSymbol
+ground_unwrapped (wrapped w g) = ground_unwrapped g
+ground_unwrapped g = g
 
 abbrev pub all_unwrapped : ClosedSymbols → ClosedSymbols
 all_unwrapped no_symbols = no_symbols
-all_unwrapped (symbol_and g gs) = symbol_and (unwrapped g) (all_unwrapped gs)
+all_unwrapped (symbol_and g gs) = symbol_and (ground_unwrapped g) (all_unwrapped gs)
 
 -- in the rules of `X*` and `X+` the symbols have names before them
 abbrev pub names_symbols : Part → Bool
@@ -80,13 +80,7 @@ abbrev mutual
   plain_symbol_kind (chosen p) = lowered_part p
   plain_symbol_kind (named n p) = lowered_part p
   plain_symbol_kind (tupled ns p) = lowered_part p
-  plain_symbol_kind (nonterminal n) = nonterminal_symbol n
-  plain_symbol_kind (ambiguous_id a) = nonterminal_symbol a
-  plain_symbol_kind (group ps) = nonterminal_symbol (kind_text (group ps))
-  plain_symbol_kind (call n ps) = nonterminal_symbol (kind_text (call n ps))
-  plain_symbol_kind (repeated op p) = nonterminal_symbol (kind_text (repeated op p))
-  plain_symbol_kind lookahead = nonterminal_symbol (kind_text lookahead)
-  plain_symbol_kind lookbehind = nonterminal_symbol (kind_text lookbehind)
+  plain_symbol_kind k = nonterminal_symbol (kind_text k)
 
   pub lowered_part : Part → LoweredSymbol
   lowered_part (at s k) = plain_symbol_kind k

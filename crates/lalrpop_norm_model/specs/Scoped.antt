@@ -2,9 +2,9 @@
 use Rattle.std.specs.Prelude.{◌≡◌, ◌<◌, Bool, true, false, ◌&&◌, ◌||◌, not, List, [], ◌∷◌, length, Option}
 use Rattle.std.specs.Prelude.{Some, None}
 use Rattle.lalrpop_norm_tree_names.specs.declared.names.NonterminalString.{NonterminalString}
-use Rattle.lalrpop_norm_tree.specs.Symbols.{Kind, Part, Parts, group, ambiguous_id, terminal, nonterminal, call, repeated, chosen}
-use Rattle.lalrpop_norm_tree.specs.Symbols.{named, tupled, lookahead, lookbehind, error_terminal, at, no_parts, part_and}
+use Rattle.lalrpop_norm_tree.specs.Symbols.{Kind, Part, Parts, ambiguous_id, nonterminal, call, no_parts, part_and}
 use Rattle.lalrpop_norm_theory.specs.Rounds.{In}
+use Rattle.lalrpop_norm_model.specs.Gathered.{gathered_kind, gathered_part, gathered_parts}
 use Rattle.lalrpop_norm_model.specs.Scopes.{is_argument}
 use Rattle.lalrpop_norm_model.specs.Levels.{Leveled, levels_of}
 use Rattle.lalrpop_norm_model.specs.WrittenRules.{WrittenRule, rule_named}
@@ -26,27 +26,20 @@ is_macro_for ps (Some r) = has_arguments r && takes r.args ps
 
 -- Each name in a symbol is one of the arguments or a rule without arguments, each call names a macro with that many arguments,
 -- and no identifier is left open.
-abbrev mutual
-  pub is_scoped_kind : List WrittenRule → List NonterminalString → Kind → Bool
-  is_scoped_kind rs args (nonterminal n) = is_argument args n || is_rule (rule_named rs n)
-  is_scoped_kind rs args (call n ps) = not (is_argument args n) && (is_macro_for ps (rule_named rs n) && are_scoped rs args ps)
-  is_scoped_kind rs args (group ps) = are_scoped rs args ps
-  is_scoped_kind rs args (repeated op p) = is_scoped rs args p
-  is_scoped_kind rs args (chosen p) = is_scoped rs args p
-  is_scoped_kind rs args (named n p) = is_scoped rs args p
-  is_scoped_kind rs args (tupled ns p) = is_scoped rs args p
-  is_scoped_kind rs args (ambiguous_id a) = false
-  is_scoped_kind rs args (terminal t) = true
-  is_scoped_kind rs args lookahead = true
-  is_scoped_kind rs args lookbehind = true
-  is_scoped_kind rs args error_terminal = true
+abbrev pub is_scoped_with : List WrittenRule → List NonterminalString → Kind → Bool → Bool
+is_scoped_with rs args (nonterminal n) inside = is_argument args n || is_rule (rule_named rs n)
+is_scoped_with rs args (call n ps) inside = not (is_argument args n) && (is_macro_for ps (rule_named rs n) && inside)
+is_scoped_with rs args (ambiguous_id a) inside = false
+is_scoped_with rs args _ inside = inside
 
-  pub is_scoped : List WrittenRule → List NonterminalString → Part → Bool
-  is_scoped rs args (at s k) = is_scoped_kind rs args k
+abbrev pub is_scoped_kind : List WrittenRule → List NonterminalString → Kind → Bool
+is_scoped_kind rs args = gathered_kind (is_scoped_with rs args) true (λ x y. x && y)
 
-  pub are_scoped : List WrittenRule → List NonterminalString → Parts → Bool
-  are_scoped rs args no_parts = true
-  are_scoped rs args (part_and p ps) = is_scoped rs args p && are_scoped rs args ps
+abbrev pub is_scoped : List WrittenRule → List NonterminalString → Part → Bool
+is_scoped rs args = gathered_part (is_scoped_with rs args) true (λ x y. x && y)
+
+abbrev pub are_scoped : List WrittenRule → List NonterminalString → Parts → Bool
+are_scoped rs args = gathered_parts (is_scoped_with rs args) true (λ x y. x && y)
 
 -- the names in each alternative of each rule have a meaning
 abbrev pub NamesAreScoped : List WrittenRule → Type 0

@@ -8,8 +8,8 @@ use Rattle.lalrpop_norm_tree_names.specs.declared.names.TerminalString.TheVarian
 use Rattle.lalrpop_norm_tree.specs.declared.items.MatchItem.{MatchItem}
 use Rattle.lalrpop_norm_tree.specs.declared.items.MatchItem.TheVariants.{CatchAll, Unmapped, Mapped}
 use Rattle.lalrpop_norm_tree.specs.declared.items.MatchMapping.TheVariants as mapping
-use Rattle.lalrpop_norm_tree.specs.Symbols.{Kind, Part, Parts, group, ambiguous_id, terminal, nonterminal, call, repeated, chosen}
-use Rattle.lalrpop_norm_tree.specs.Symbols.{named, tupled, lookahead, lookbehind, error_terminal, at, no_parts, part_and}
+use Rattle.lalrpop_norm_tree.specs.Symbols.{Kind, Part, Parts, ambiguous_id, terminal, nonterminal}
+use Rattle.lalrpop_norm_tree.specs.Traversal.{map_kind, map_part, map_parts}
 use Rattle.lalrpop_norm_tree.specs.Items.{AlternativeData, RuleData, ConversionData, EnumTokenData, ItemData, GrammarData}
 use Rattle.lalrpop_norm_tree.specs.Items.{match_item, extern_item, intern_item, rule_item, use_item}
 
@@ -93,27 +93,18 @@ by_sense (Some (a_global a_terminal)) name = terminal (Bare name)
 by_sense (Some (a_global (a_macro n))) name = ambiguous_id name
 by_sense None name = ambiguous_id name
 
-abbrev mutual
-  pub resolved_kind : (List ℕ → Option Sense) → Kind → Kind
-  resolved_kind sense (ambiguous_id a) = by_sense (sense a) a
-  resolved_kind sense (group ps) = group (resolved_parts sense ps)
-  resolved_kind sense (terminal t) = terminal t
-  resolved_kind sense (nonterminal n) = nonterminal n
-  resolved_kind sense (call n ps) = call n (resolved_parts sense ps)
-  resolved_kind sense (repeated op p) = repeated op (resolved_part sense p)
-  resolved_kind sense (chosen p) = chosen (resolved_part sense p)
-  resolved_kind sense (named n p) = named n (resolved_part sense p)
-  resolved_kind sense (tupled ns p) = tupled ns (resolved_part sense p)
-  resolved_kind sense lookahead = lookahead
-  resolved_kind sense lookbehind = lookbehind
-  resolved_kind sense error_terminal = error_terminal
+abbrev pub resolved_leaf : (List ℕ → Option Sense) → Kind → Kind
+resolved_leaf sense (ambiguous_id a) = by_sense (sense a) a
+resolved_leaf sense k = k
 
-  pub resolved_part : (List ℕ → Option Sense) → Part → Part
-  resolved_part sense (at s k) = at s (resolved_kind sense k)
+abbrev pub resolved_kind : (List ℕ → Option Sense) → Kind → Kind
+resolved_kind sense = map_kind (resolved_leaf sense)
 
-  pub resolved_parts : (List ℕ → Option Sense) → Parts → Parts
-  resolved_parts sense no_parts = no_parts
-  resolved_parts sense (part_and p ps) = part_and (resolved_part sense p) (resolved_parts sense ps)
+abbrev pub resolved_part : (List ℕ → Option Sense) → Part → Part
+resolved_part sense = map_part (resolved_leaf sense)
+
+abbrev pub resolved_parts : (List ℕ → Option Sense) → Parts → Parts
+resolved_parts sense = map_parts (resolved_leaf sense)
 
 abbrev pub resolved_alternative : (List ℕ → Option Sense) → AlternativeData → AlternativeData
 resolved_alternative sense a = record a { parts = resolved_parts sense a.parts }

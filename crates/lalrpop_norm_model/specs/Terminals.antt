@@ -1,30 +1,38 @@
 -- The terminals that an expanded grammar uses.
-use Rattle.std.specs.Prelude.{List, [], ◌∷◌, ◌++◌, flat_map}
+use Rattle.std.specs.Prelude.{List, [], ◌∷◌, ◌++◌, map, flat_map}
+use Rattle.lalrpop_norm_tree_names.specs.declared.names.Span.{Span}
 use Rattle.lalrpop_norm_tree_names.specs.declared.names.TerminalString.{TerminalString}
 pub use Rattle.lalrpop_norm_tree_names.specs.Terminals.{same_literal, same_terminal, literal_cmp, terminal_cmp}
-use Rattle.lalrpop_norm_tree.specs.Symbols.{Kind, Part, Parts, group, ambiguous_id, terminal, nonterminal, call, repeated, chosen}
-use Rattle.lalrpop_norm_tree.specs.Symbols.{named, tupled, lookahead, lookbehind, error_terminal, at, no_parts, part_and}
+use Rattle.lalrpop_norm_tree.specs.Symbols.{Kind, Part, Parts, terminal, at, no_parts, part_and}
+use Rattle.lalrpop_norm_tree.specs.Traversal.{unwrapped, unwrapped_kind}
 use Rattle.lalrpop_norm_tree.specs.Items.{AlternativeData, RuleData, GrammarData}
 use Rattle.lalrpop_norm_model.specs.PlainRules.{all_rules}
 
--- The terminals in a symbol, under wrappers. A kind that an expanded grammar does not have uses none; `!` is no terminal.
-abbrev mutual
-  pub terminals_in : Part → List TerminalString
-  terminals_in (at s k) = terminals_in_kind k
+-- a terminal with its span
+abbrev pub terminal_place : Part → List (TerminalString × Span)
+terminal_place (at s (terminal t)) = (t, s) ∷ []
+terminal_place _ = []
 
-  pub terminals_in_kind : Kind → List TerminalString
-  terminals_in_kind (terminal t) = t ∷ []
-  terminals_in_kind (chosen p) = terminals_in p
-  terminals_in_kind (named n p) = terminals_in p
-  terminals_in_kind (tupled ns p) = terminals_in p
-  terminals_in_kind (nonterminal n) = []
-  terminals_in_kind error_terminal = []
-  terminals_in_kind (group ps) = []
-  terminals_in_kind (ambiguous_id a) = []
-  terminals_in_kind (call n ps) = []
-  terminals_in_kind (repeated op p) = []
-  terminals_in_kind lookahead = []
-  terminals_in_kind lookbehind = []
+-- The terminals in a symbol, under wrappers, each with its span. A kind that an expanded grammar does not have uses none; `!` is
+-- no terminal.
+abbrev pub places_in : Part → List (TerminalString × Span)
+places_in p = terminal_place (unwrapped p)
+
+abbrev pub places_in_kind : Span → Kind → List (TerminalString × Span)
+places_in_kind s k = terminal_place (unwrapped_kind s k)
+
+abbrev pub places_in_parts : Parts → List (TerminalString × Span)
+places_in_parts no_parts = []
+places_in_parts (part_and p ps) = places_in p ++ places_in_parts ps
+
+-- the terminals that alternatives use, each with its span
+abbrev pub places_used : GrammarData → List (TerminalString × Span)
+places_used g =
+    flat_map (λ (r : RuleData). flat_map (λ (a : AlternativeData). places_in_parts a.parts) r.alternatives) (all_rules g)
+
+-- the same without spans
+abbrev pub terminals_in : Part → List TerminalString
+terminals_in p = map (λ (u : TerminalString × Span). u.0) (places_in p)
 
 abbrev pub terminals_in_parts : Parts → List TerminalString
 terminals_in_parts no_parts = []

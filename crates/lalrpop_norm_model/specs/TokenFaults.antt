@@ -2,7 +2,6 @@
 use Rattle.std.specs.Prelude.{Bool, true, false, not, ◌||◌, List, [], ◌∷◌, ◌++◌, flat_map, Option, Some, None}
 use Rattle.std.specs.Prelude.{bytes_eq, is_none, codes}
 use Rattle.std.specs.List.{list_any}
-use Rattle.lalrpop_norm_tree_names.specs.declared.names.Span.{Span}
 use Rattle.lalrpop_norm_tree_names.specs.declared.names.TerminalLiteral.{TerminalLiteral}
 use Rattle.lalrpop_norm_tree_names.specs.declared.names.TerminalString.{TerminalString}
 use Rattle.lalrpop_norm_tree_names.specs.declared.names.TerminalString.TheVariants.{Literal, Bare, Error}
@@ -11,15 +10,13 @@ use Rattle.lalrpop_norm_tree_names.specs.declared.names.TypeParameter.TheVariant
 use Rattle.lalrpop_norm_tree.specs.declared.items.MatchItem.{MatchItem}
 use Rattle.lalrpop_norm_tree.specs.declared.items.MatchItem.TheVariants.{CatchAll, Unmapped, Mapped}
 use Rattle.lalrpop_norm_tree.specs.Accessors.{match_item_span}
-use Rattle.lalrpop_norm_tree.specs.Items.{AlternativeData, RuleData, ConversionData, EnumTokenData, MatchTokenData, GrammarData}
-use Rattle.lalrpop_norm_tree.specs.Symbols.{Kind, Part, Parts, group, ambiguous_id, terminal, nonterminal, call, repeated, chosen}
-use Rattle.lalrpop_norm_tree.specs.Symbols.{named, tupled, lookahead, lookbehind, error_terminal, at, no_parts, part_and}
+use Rattle.lalrpop_norm_tree.specs.Items.{ConversionData, EnumTokenData, MatchTokenData, GrammarData}
 use Rattle.lalrpop_norm_tree.specs.Types.{ParameterData}
 use Rattle.lalrpop_norm_faults.specs.Faults.{Fault, fault_if}
 use Rattle.lalrpop_norm_faults.specs.declared.kind.FaultKind.TheVariants.{LiteralTwice, TerminalTwice, NoMapping, NoPattern}
 use Rattle.lalrpop_norm_faults.specs.declared.kind.FaultKind.TheVariants.{InputLifetime, InputParameter}
-use Rattle.lalrpop_norm_model.specs.PlainRules.{all_rules}
 use Rattle.lalrpop_norm_model.specs.Terminals.{same_literal, same_terminal}
+pub use Rattle.lalrpop_norm_model.specs.Terminals.{places_in, places_in_kind, places_in_parts, places_used}
 use Rattle.lalrpop_norm_model.specs.Entries.{match_block, match_entries, item_entries, catch_all, user_names}
 use Rattle.lalrpop_norm_model.specs.TerminalTypes.{extern_enum}
 
@@ -63,34 +60,6 @@ repeated_conversion_faults before c =
     fault_if (list_any (λ (b : ConversionData). same_terminal c.from b.from) before) (TerminalTwice, c.span)
 
 -- ---- symbols
-
--- the terminals in a symbol, each with its span, under wrappers
-abbrev mutual
-  pub places_in : Part → List (TerminalString × Span)
-  places_in (at s k) = places_in_kind s k
-
-  pub places_in_kind : Span → Kind → List (TerminalString × Span)
-  places_in_kind s (terminal t) = (t, s) ∷ []
-  places_in_kind s (chosen p) = places_in p
-  places_in_kind s (named n p) = places_in p
-  places_in_kind s (tupled ns p) = places_in p
-  places_in_kind s (nonterminal n) = []
-  places_in_kind s error_terminal = []
-  places_in_kind s (group ps) = []
-  places_in_kind s (ambiguous_id a) = []
-  places_in_kind s (call n ps) = []
-  places_in_kind s (repeated op p) = []
-  places_in_kind s lookahead = []
-  places_in_kind s lookbehind = []
-
-abbrev pub places_in_parts : Parts → List (TerminalString × Span)
-places_in_parts no_parts = []
-places_in_parts (part_and p ps) = places_in p ++ places_in_parts ps
-
--- the terminals that alternatives use, each with its span
-abbrev pub places_used : GrammarData → List (TerminalString × Span)
-places_used g =
-    flat_map (λ (r : RuleData). flat_map (λ (a : AlternativeData). places_in_parts a.parts) r.alternatives) (all_rules g)
 
 -- whether a terminal has an entry: as a user name, or, where it is a literal, by the catch-all
 abbrev pub has_entry : GrammarData → TerminalString → Bool

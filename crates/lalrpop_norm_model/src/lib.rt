@@ -9,7 +9,8 @@ ghost use Rattle.lalrpop_norm_model.specs.Laws.{LevelsAreListed, PreviousIsBelow
 ghost use Rattle.lalrpop_norm_model.specs.Laws.{PlacesAreLeveled, LevelsAreStated, SidesAreStated, LevelsAreHandedOn, DisabledAreNoMatter};
 ghost use Rattle.lalrpop_norm_model.specs.Laws.{ScopedAsWritten, EnabledAreActive, ResolvedOnce};
 ghost use Rattle.lalrpop_norm_model.specs.Laws.{LevelRulesAreRead, BoundsAreBySide, ConditionsDecide};
-ghost use Rattle.lalrpop_norm_model.specs.Laws.{DisabledAreLeftOut, RanksCountEnabled, DisabledOnlyRenumber, ClausesOnlyRenumber, TreesOnlyRenumber};
+ghost use Rattle.lalrpop_norm_model.specs.Laws.{DisabledAreLeftOut, RanksCountEnabled, DisabledOnlyRenumber};
+ghost use Rattle.lalrpop_norm_model.specs.Laws.{ClausesOnlyRenumber, TreesOnlyRenumber};
 ghost use Rattle.lalrpop_norm_model.specs.Laws.{GrammarsAreLeveled, WrittenGrammarsAreLeveled, LevelsAreSteps, WrittenTreesAreLowered};
 ghost use Rattle.lalrpop_norm_model.specs.Laws.{ArgumentsAreSubstituted, MadeRulesAreRead, RulesAreRead, MetIsRead};
 ghost use Rattle.lalrpop_norm_model.specs.Laws.{MadeSymbolsAreScoped, RoundsAreRead};

@@ -2,15 +2,13 @@
 use Rattle.std.proofs.Common.{◌≡◌, List, [], ◌∷◌, ◌++◌, map, refl, sym, ap, ap₂, ◌∙◌}
 use Rattle.std.specs.List.{flat_map}
 use Rattle.std.proofs.lemmas.List.{map-append}
-use Rattle.lalrpop_norm_tree_names.specs.declared.names.Span.{Span}
 use Rattle.lalrpop_norm_tree_names.specs.declared.names.TerminalString.{TerminalString}
 use Rattle.lalrpop_norm_tree.specs.Items.{AlternativeData, RuleData, ItemData, GrammarData}
-use Rattle.lalrpop_norm_tree.specs.Symbols.{Kind, Part, Parts, group, ambiguous_id, terminal, nonterminal, call, repeated, chosen}
-use Rattle.lalrpop_norm_tree.specs.Symbols.{named, tupled, lookahead, lookbehind, error_terminal, at, no_parts, part_and}
+use Rattle.lalrpop_norm_tree.specs.Symbols.{Parts, no_parts, part_and}
 use Rattle.lalrpop_norm_theory.proofs.ListLemmas.{flat_append}
 use Rattle.lalrpop_norm_model.specs.PlainRules.{rule_of_item, all_rules}
-use Rattle.lalrpop_norm_model.specs.Terminals.{terminals_in, terminals_in_kind, terminals_in_parts, terminals_in_rule, terminals_used}
-use Rattle.lalrpop_norm_model.specs.TokenFaults.{places_in, places_in_kind, places_in_parts, places_used}
+use Rattle.lalrpop_norm_model.specs.Terminals.{terminals_in, terminals_in_parts, terminals_in_rule, terminals_used}
+use Rattle.lalrpop_norm_model.specs.TokenFaults.{places_in, places_in_parts, places_used}
 use Rattle.lalrpop_norm_session.specs.Uses.{Use, places_in_alternatives, places_in_item}
 
 uses_in : (items : List ItemData) →
@@ -24,28 +22,10 @@ uses_in (i ∷ items) =
 pub uses_are : (g : GrammarData) → flat_map places_in_item g.items ≡ places_used g
 uses_are g = uses_in g.items
 
-mutual
-  terminals_are_kind : (s : Span) (k : Kind) → terminals_in_kind k ≡ map (λ (u : Use). u.0) (places_in_kind s k)
-  terminals_are_kind s (terminal t) = refl
-  terminals_are_kind s (chosen p) = terminals_are p
-  terminals_are_kind s (named n p) = terminals_are p
-  terminals_are_kind s (tupled ns p) = terminals_are p
-  terminals_are_kind s (nonterminal n) = refl
-  terminals_are_kind s error_terminal = refl
-  terminals_are_kind s (group ps) = refl
-  terminals_are_kind s (ambiguous_id a) = refl
-  terminals_are_kind s (call n ps) = refl
-  terminals_are_kind s (repeated op p) = refl
-  terminals_are_kind s lookahead = refl
-  terminals_are_kind s lookbehind = refl
-
-  terminals_are : (p : Part) → terminals_in p ≡ map (λ (u : Use). u.0) (places_in p)
-  terminals_are (at s k) = terminals_are_kind s k
-
 terminals_are_parts : (ps : Parts) → terminals_in_parts ps ≡ map (λ (u : Use). u.0) (places_in_parts ps)
 terminals_are_parts no_parts = refl
 terminals_are_parts (part_and p ps) =
-    ap₂ (λ (xs ys : List TerminalString). xs ++ ys) (terminals_are p) (terminals_are_parts ps) ∙ sym (map-append (λ (u : Use). u.0) (places_in p) (places_in_parts ps))
+    ap (λ (xs : List TerminalString). terminals_in p ++ xs) (terminals_are_parts ps) ∙ sym (map-append (λ (u : Use). u.0) (places_in p) (places_in_parts ps))
 
 flat_mapped : {A B C : Type 0} (f : A → List B) (h : A → List C) (v : C → B) → ((x : A) → f x ≡ map v (h x)) → (xs : List A) →
     flat_map f xs ≡ map v (flat_map h xs)

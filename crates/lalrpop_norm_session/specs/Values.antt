@@ -1,12 +1,6 @@
 -- Which symbols of a list give the values of an alternative, asked one by one.
 use Rattle.std.specs.Prelude.{Bool, true, false, ◌||◌}
-use Rattle.lalrpop_norm_tree.specs.Symbols.{Kind, chosen, named, tupled, Part, at, Parts, no_parts, part_and}
-
--- a name, or a tuple of names, is before the symbol
-abbrev pub is_naming : Kind → Bool
-is_naming (named n p) = true
-is_naming (tupled ns p) = true
-is_naming k = false
+use Rattle.lalrpop_norm_tree.specs.Symbols.{Kind, chosen, Part, at, Parts, no_parts, part_and}
 
 -- the symbol is selected, as in `<Expr>`
 abbrev pub is_chosen_kind : Kind → Bool

@@ -2,10 +2,11 @@
 ghost use Rattle.std.specs.Prelude.{◌≡◌, IfOk, map, option_map};
 ghost use Rattle.lalrpop_norm_tree.specs.Items.{alternative_view};
 ghost use Rattle.lalrpop_norm_tree.specs.Symbols.{argument_pattern_view, expr_view, kind_view, parts_view, symbol_view};
-ghost use Rattle.lalrpop_norm_model.specs.MadeRules.{names_value, some_name_value, group_sources};
+ghost use Rattle.lalrpop_norm_model.specs.MadeRules.{is_naming, names_value, some_name_value, group_sources};
 ghost use Rattle.lalrpop_norm_session.specs.Braces.{presence, presence_between, has_odd_quotes, is_in_braces};
-ghost use Rattle.lalrpop_norm_session.specs.ExprSymbols.{named_in, named_parts, chosen_in, chosen_parts, all_parts, placed_sources, analyzed_symbols, analyzed_action, symbols_seen, action_seen};
-ghost use Rattle.lalrpop_norm_session.specs.Values.{is_naming, is_chosen, is_chosen_kind, has_chosen};
+ghost use Rattle.lalrpop_norm_session.specs.ExprSymbols.{named_in, named_parts, chosen_in, chosen_parts, all_parts};
+ghost use Rattle.lalrpop_norm_session.specs.ExprSymbols.{placed_sources, analyzed_symbols, analyzed_action, symbols_seen, action_seen};
+ghost use Rattle.lalrpop_norm_session.specs.Values.{is_chosen, is_chosen_kind, has_chosen};
 
 use lalrpop_norm_tree::grammar::parse_tree::{
     ActionKind, Alternative, ArgPattern, ExprSymbol, NoMemory, Symbol, SymbolKind,
@@ -134,7 +135,8 @@ fn named_in<'a>(
     place: usize,
     kind: &'a SymbolKind,
 ) -> Result<Option<(usize, ArgPattern, &'a Symbol)>, NoMemory>
-    ensures { IfOk result (λ o. option_map (λ t. (t.0, argument_pattern_view t.1, symbol_view t.2.now)) o ≡ named_in place (kind_view kind.now)) }
+    ensures { IfOk result (λ o. option_map (λ t. (t.0, argument_pattern_view t.1, symbol_view t.2.now)) o
+        ≡ named_in place (kind_view kind.now)) }
 {
     match kind {
         SymbolKind::Name(name, symbol) => {
@@ -162,7 +164,8 @@ fn named_symbols<'a>(
     alloc: Global,
     symbols: &'a [Symbol],
 ) -> Result<Vec<(usize, ArgPattern, &'a Symbol)>, NoMemory>
-    ensures { IfOk result (λ v. map (λ t. (t.0, argument_pattern_view t.1, symbol_view t.2.now)) v.items ≡ named_parts 0 (parts_view symbols.now)) }
+    ensures { IfOk result (λ v. map (λ t. (t.0, argument_pattern_view t.1, symbol_view t.2.now)) v.items
+        ≡ named_parts 0 (parts_view symbols.now)) }
 {
     let mut found = Vec::new(alloc);
     for (place, symbol) in symbols.iter().enumerate() {
