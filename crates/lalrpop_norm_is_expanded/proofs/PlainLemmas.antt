@@ -1,20 +1,20 @@
 -- Rules of the expanded grammar and their names, seen by the lists of symbols, types and names.
-use Rattle.std.proofs.Common.{◌≡◌, ◌∙◌, ℕ, true, ◌&&◌, not, List, [], ◌∷◌, Option, Some, None, map, bytes_eq, inl, inr, refl, sym, ap, ap₂}
+use Rattle.std.proofs.Common.{◌≡◌, ◌∙◌, ℕ, Bool, true, ◌&&◌, not, List, [], ◌∷◌, Option, Some, None, map, bytes_eq, inl, inr, refl, sym, ap, ap₂}
 use Rattle.std.specs.Prelude.{option_to_list}
 use Rattle.std.specs.List.{flat_map, list_all}
 use Rattle.std.proofs.Math.Bool.{and-true}
 use Rattle.std.proofs.lemmas.List.Folds.{list_all-append}
 use Rattle.std.proofs.lemmas.Slice.Eq.{bytes_eq-Decides}
 use Rattle.lalrpop_norm_tree.specs.Items.{RuleData, ItemData, match_item, extern_item, intern_item, rule_item, use_item}
-use Rattle.lalrpop_norm_tree.specs.Symbols.{Kind, Part, Parts, group, ambiguous_id, terminal, nonterminal, call, repeated, chosen}
-use Rattle.lalrpop_norm_tree.specs.Symbols.{named, tupled, lookahead, lookbehind, error_terminal, at, no_parts, part_and}
+use Rattle.lalrpop_norm_tree.specs.Symbols.{Kind, Parts, terminal, nonterminal, error_terminal, no_parts, part_and}
 use Rattle.lalrpop_norm_tree.specs.Types.{TypeData, TypesData, MaybeType, tuple, slice, nominal, reference, trait_object}
 use Rattle.lalrpop_norm_tree.specs.Types.{of_lifetime, id, of_symbol, function, no_types, type_and, no_type, returns}
 use Rattle.lalrpop_norm_theory.specs.Rounds.{In, IsDistinct}
 use Rattle.lalrpop_norm_theory.proofs.BoolLemmas.{both_true, not_true, true_not, both_hold, or_cases, or_left, or_right}
 use Rattle.lalrpop_norm_model.specs.PlainRules.{rule_of_item}
-use Rattle.lalrpop_norm_model.specs.Expanded.{is_plain_terminal, is_plain_kind, is_plain, are_plain, names_in_kind, names_in, names_in_parts, symbols_in, symbols_in_all, symbols_in_return}
-use Rattle.lalrpop_norm_is_expanded.specs.Plain.{is_rule_there, is_no_name_twice, is_usable_kind, is_usable, are_usable, is_usable_in, are_usable_in, is_usable_return, is_usable_declared, is_usable_rule, is_usable_item}
+use Rattle.lalrpop_norm_model.specs.Wrappers.{wrapped_kind, wrapped_part}
+use Rattle.lalrpop_norm_model.specs.Expanded.{is_plain_terminal, is_plain_leaf, any_name, is_plain_kind, is_plain, are_plain, leaf_names, names_in_kind, names_in, names_in_parts, symbols_in, symbols_in_all, symbols_in_return}
+use Rattle.lalrpop_norm_is_expanded.specs.Plain.{is_rule_there, is_no_name_twice, is_usable_kind, are_usable, is_usable_in, are_usable_in, is_usable_return, is_usable_declared, is_usable_rule, is_usable_item}
 use Rattle.lalrpop_norm_theory.proofs.ListTests.{all_flat, all_same, crossed}
 
 -- ---- names of rules
@@ -63,28 +63,20 @@ distinct_once (use_item s ∷ items) d = distinct_once items d
 
 -- ---- symbols
 
-mutual
-  pub kind_usable : (all : List ItemData) (k : Kind) → is_usable_kind all k ≡ (is_plain_kind k && list_all (is_rule_there all) (names_in_kind k))
-  kind_usable all (terminal t) = sym (and-true (is_plain_terminal t))
-  kind_usable all (nonterminal n) = sym (and-true (is_rule_there all n))
-  kind_usable all error_terminal = refl
-  kind_usable all (chosen p) = part_usable all p
-  kind_usable all (named n p) = part_usable all p
-  kind_usable all (tupled ns p) = part_usable all p
-  kind_usable all (group ps) = refl
-  kind_usable all (ambiguous_id a) = refl
-  kind_usable all (call n ps) = refl
-  kind_usable all (repeated op p) = refl
-  kind_usable all lookahead = refl
-  kind_usable all lookbehind = refl
+-- the test of names is of the names in it
+leaf_usable : (test : List ℕ → Bool) (k : Kind) → is_plain_leaf test k ≡ (is_plain_leaf any_name k && list_all test (leaf_names k))
+leaf_usable test (terminal t) = sym (and-true (is_plain_terminal t))
+leaf_usable test (nonterminal n) = sym (and-true (test n))
+leaf_usable test error_terminal = refl
+leaf_usable test _ = refl
 
-  part_usable : (all : List ItemData) (p : Part) → is_usable all p ≡ (is_plain p && list_all (is_rule_there all) (names_in p))
-  part_usable all (at s k) = kind_usable all k
+pub kind_usable : (all : List ItemData) (k : Kind) → is_usable_kind all k ≡ (is_plain_kind k && list_all (is_rule_there all) (names_in_kind k))
+kind_usable all k = leaf_usable (is_rule_there all) (wrapped_kind k)
 
 pub parts_usable : (all : List ItemData) (ps : Parts) → are_usable all ps ≡ (are_plain ps && list_all (is_rule_there all) (names_in_parts ps))
 parts_usable all no_parts = refl
 parts_usable all (part_and p ps) =
-    ap₂ (λ a b. a && b) (part_usable all p) (parts_usable all ps)
+    ap₂ (λ a b. a && b) (leaf_usable (is_rule_there all) (wrapped_part p)) (parts_usable all ps)
     ∙ (crossed (is_plain p) (list_all (is_rule_there all) (names_in p)) (are_plain ps) (list_all (is_rule_there all) (names_in_parts ps))
     ∙ ap (λ b. (is_plain p && are_plain ps) && b) (sym (list_all-append (is_rule_there all) (names_in p) (names_in_parts ps))))
 

@@ -2,11 +2,11 @@
 use Rattle.std.specs.Prelude.{ℕ, Bool, true, false, ◌&&◌, not, List, [], ◌∷◌, Option, Some, None, bytes_eq, is_none}
 use Rattle.std.specs.List.{list_all, list_any}
 use Rattle.lalrpop_norm_tree.specs.Items.{AlternativeData, RuleData, ItemData, rule_item}
-use Rattle.lalrpop_norm_tree.specs.Symbols.{Kind, Part, Parts, group, ambiguous_id, terminal, nonterminal, call, repeated, chosen}
-use Rattle.lalrpop_norm_tree.specs.Symbols.{named, tupled, lookahead, lookbehind, error_terminal, at, no_parts, part_and}
+use Rattle.lalrpop_norm_tree.specs.Symbols.{Kind, Part, Parts, no_parts, part_and}
 use Rattle.lalrpop_norm_tree.specs.Types.{TypeData, TypesData, MaybeType, tuple, slice, nominal, reference, trait_object}
 use Rattle.lalrpop_norm_tree.specs.Types.{of_lifetime, id, of_symbol, function, no_types, type_and, no_type, returns}
-use Rattle.lalrpop_norm_model.specs.Expanded.{is_plain_terminal}
+use Rattle.lalrpop_norm_model.specs.Wrappers.{wrapped_kind, wrapped_part}
+use Rattle.lalrpop_norm_model.specs.Expanded.{is_plain_leaf}
 use Rattle.lalrpop_norm_model.specs.Grammars.{is_nil}
 
 -- ---- names
@@ -31,23 +31,11 @@ is_no_name_twice (i ∷ items) = not (is_named_again i items) && is_no_name_twic
 -- ---- symbols
 
 -- a plain symbol, and the nonterminal in it has a rule
-abbrev mutual
-  pub is_usable_kind : List ItemData → Kind → Bool
-  is_usable_kind items (terminal t) = is_plain_terminal t
-  is_usable_kind items (nonterminal n) = is_rule_there items n
-  is_usable_kind items error_terminal = true
-  is_usable_kind items (chosen p) = is_usable items p
-  is_usable_kind items (named n p) = is_usable items p
-  is_usable_kind items (tupled ns p) = is_usable items p
-  is_usable_kind items (group ps) = false
-  is_usable_kind items (ambiguous_id a) = false
-  is_usable_kind items (call n ps) = false
-  is_usable_kind items (repeated op p) = false
-  is_usable_kind items lookahead = false
-  is_usable_kind items lookbehind = false
+abbrev pub is_usable_kind : List ItemData → Kind → Bool
+is_usable_kind items k = is_plain_leaf (is_rule_there items) (wrapped_kind k)
 
-  pub is_usable : List ItemData → Part → Bool
-  is_usable items (at s k) = is_usable_kind items k
+abbrev pub is_usable : List ItemData → Part → Bool
+is_usable items p = is_plain_leaf (is_rule_there items) (wrapped_part p)
 
 abbrev pub are_usable : List ItemData → Parts → Bool
 are_usable items no_parts = true

@@ -4,7 +4,10 @@ ghost use Rattle.std.specs.List.{list_all};
 ghost use Rattle.lalrpop_norm_tree.specs.Items.{alternative_view, item_view, rule_view};
 ghost use Rattle.lalrpop_norm_tree.specs.Symbols.{expr_view, kind_view, parts_view, symbol_view};
 ghost use Rattle.lalrpop_norm_tree.specs.Types.{maybe_of, type_view, types_view};
-ghost use Rattle.lalrpop_norm_is_expanded.specs.Plain.{is_rule_there, is_rule_named, is_usable_kind, is_usable, are_usable, is_usable_in, are_usable_in, is_usable_return, is_usable_declared, is_usable_alternative, is_usable_rule, is_usable_item, is_named_again, is_no_name_twice};
+ghost use Rattle.lalrpop_norm_is_expanded.specs.Plain.{is_rule_there, is_rule_named, is_named_again, is_no_name_twice};
+ghost use Rattle.lalrpop_norm_is_expanded.specs.Plain.{is_usable_kind, is_usable, are_usable, is_usable_in, are_usable_in};
+ghost use Rattle.lalrpop_norm_is_expanded.specs.Plain.{is_usable_return, is_usable_declared, is_usable_alternative};
+ghost use Rattle.lalrpop_norm_is_expanded.specs.Plain.{is_usable_rule, is_usable_item};
 
 use lalrpop_norm_tree::grammar::parse_tree::{
     Alternative, ExprSymbol, GrammarItem, NonterminalData, NonterminalString, Symbol, SymbolKind,

@@ -3,7 +3,9 @@ ghost use Rattle.std.specs.Prelude.{◌≡◌, ◌↔◌, ◌≤◌, length, map
 ghost use Rattle.std.specs.List.{list_all};
 ghost use Rattle.lalrpop_norm_tree.specs.Items.{conversion_view, enum_token_view, item_view, match_contents_view};
 ghost use Rattle.lalrpop_norm_model.specs.Expanded.{enum_in, intern_in, is_plain_terminal, match_in};
-ghost use Rattle.lalrpop_norm_is_expanded.specs.Tokens.{AreSourcesApart, conversion_spares_error, entry_spares_error, enum_spares_error, group_spares_error, item_spares_error, mapping_spares_error, match_item_spares_error};
+ghost use Rattle.lalrpop_norm_is_expanded.specs.Tokens.{AreSourcesApart, conversion_spares_error, entry_spares_error};
+ghost use Rattle.lalrpop_norm_is_expanded.specs.Tokens.{enum_spares_error, group_spares_error, item_spares_error};
+ghost use Rattle.lalrpop_norm_is_expanded.specs.Tokens.{mapping_spares_error, match_item_spares_error};
 
 use lalrpop_norm_tree::grammar::parse_tree::{
     Conversion, EnumToken, GrammarItem, MatchContents, MatchEntry, MatchItem, MatchMapping,

@@ -5,7 +5,11 @@ ghost use Rattle.lalrpop_norm_tree_parts.specs.Bounds.{bound_parameter_view, bou
 ghost use Rattle.lalrpop_norm_tree_patterns.specs.Patterns.{field_view, fields_view, pattern_kind_view, pattern_view, patterns_view};
 ghost use Rattle.lalrpop_norm_tree.specs.Items.{associated_type_view, conversion_view, enum_token_view, grammar_view, item_view};
 ghost use Rattle.lalrpop_norm_tree.specs.Types.{parameter_view, type_view};
-ghost use Rattle.lalrpop_norm_is_expanded.specs.Types.{lacks_symbol, parameter_lacks_symbol, return_lacks_symbol, bound_parameter_lacks_symbol, bound_lacks_symbol, clause_lacks_symbol, pattern_kind_lacks_symbol, pattern_lacks_symbol, patterns_lack_symbol, fields_lack_symbol, conversion_lacks_symbol, enum_lacks_symbol, associated_lacks_symbol, item_lacks_symbol, is_free_of_symbols};
+ghost use Rattle.lalrpop_norm_is_expanded.specs.Types.{lacks_symbol, parameter_lacks_symbol, return_lacks_symbol};
+ghost use Rattle.lalrpop_norm_is_expanded.specs.Types.{bound_parameter_lacks_symbol, bound_lacks_symbol, clause_lacks_symbol};
+ghost use Rattle.lalrpop_norm_is_expanded.specs.Types.{pattern_kind_lacks_symbol, pattern_lacks_symbol, patterns_lack_symbol};
+ghost use Rattle.lalrpop_norm_is_expanded.specs.Types.{fields_lack_symbol, conversion_lacks_symbol, enum_lacks_symbol};
+ghost use Rattle.lalrpop_norm_is_expanded.specs.Types.{associated_lacks_symbol, item_lacks_symbol, is_free_of_symbols};
 
 use lalrpop_norm_tree::grammar::parse_tree::{
     AssociatedType, Conversion, EnumToken, Grammar, GrammarItem, Parameter, TypeBound,

@@ -3,34 +3,27 @@ use Rattle.std.proofs.Common.{◌≡◌, ◌∙◌, ◌&&◌, List, refl, sym, a
 use Rattle.std.specs.List.{flat_map, list_all}
 use Rattle.std.proofs.Math.Bool.{and-true}
 use Rattle.std.proofs.lemmas.List.Folds.{list_all-append}
+use Rattle.lalrpop_norm_tree_names.specs.declared.names.Span.{Span}
 use Rattle.lalrpop_norm_tree.specs.Items.{AlternativeData, RuleData, ItemData, match_item, extern_item, intern_item, rule_item, use_item}
-use Rattle.lalrpop_norm_tree.specs.Symbols.{Kind, Part, Parts, group, ambiguous_id, terminal, nonterminal, call, repeated, chosen}
-use Rattle.lalrpop_norm_tree.specs.Symbols.{named, tupled, lookahead, lookbehind, error_terminal, at, no_parts, part_and}
+use Rattle.lalrpop_norm_tree.specs.Symbols.{Kind, Part, Parts, terminal, chosen, named, tupled, at, no_parts, part_and}
 use Rattle.lalrpop_norm_model.specs.Features.{Features}
 use Rattle.lalrpop_norm_model.specs.PlainRules.{rule_of_item}
-use Rattle.lalrpop_norm_model.specs.Terminals.{terminals_in, terminals_in_kind, terminals_in_parts, terminals_in_rule}
+use Rattle.lalrpop_norm_model.specs.Terminals.{terminals_in, terminals_in_parts, terminals_in_rule}
 use Rattle.lalrpop_norm_is_typed.specs.Terminals.{SourceData, is_terminal}
 use Rattle.lalrpop_norm_is_typed.specs.Used.{is_kind_listed, is_listed, are_listed, is_alternative_listed, is_rule_listed, is_item_listed}
 use Rattle.lalrpop_norm_theory.proofs.ListTests.{all_same, all_flat}
 
 module _ (fs : Features) (s : SourceData) where
   mutual
-    kind_listed : (k : Kind) → is_kind_listed fs s k ≡ list_all (is_terminal fs s) (terminals_in_kind k)
-    kind_listed (terminal t) = sym (and-true (is_terminal fs s t))
-    kind_listed (chosen p) = part_listed p
-    kind_listed (named n p) = part_listed p
-    kind_listed (tupled ns p) = part_listed p
-    kind_listed (nonterminal n) = refl
-    kind_listed error_terminal = refl
-    kind_listed (group ps) = refl
-    kind_listed (ambiguous_id a) = refl
-    kind_listed (call n ps) = refl
-    kind_listed (repeated op p) = refl
-    kind_listed lookahead = refl
-    kind_listed lookbehind = refl
+    kind_listed : (span : Span) (k : Kind) → is_kind_listed fs s k ≡ list_all (is_terminal fs s) (terminals_in (at span k))
+    kind_listed span (terminal t) = sym (and-true (is_terminal fs s t))
+    kind_listed span (chosen p) = part_listed p
+    kind_listed span (named n p) = part_listed p
+    kind_listed span (tupled ns p) = part_listed p
+    kind_listed span _ = refl
 
     part_listed : (p : Part) → is_listed fs s p ≡ list_all (is_terminal fs s) (terminals_in p)
-    part_listed (at span k) = kind_listed k
+    part_listed (at span k) = kind_listed span k
 
   parts_listed : (ps : Parts) → are_listed fs s ps ≡ list_all (is_terminal fs s) (terminals_in_parts ps)
   parts_listed no_parts = refl

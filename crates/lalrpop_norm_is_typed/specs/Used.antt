@@ -2,29 +2,21 @@
 use Rattle.std.specs.Prelude.{Bool, true, ◌&&◌}
 use Rattle.std.specs.List.{list_all}
 use Rattle.lalrpop_norm_tree.specs.Items.{AlternativeData, RuleData, ItemData, rule_item}
-use Rattle.lalrpop_norm_tree.specs.Symbols.{Kind, Part, Parts, group, ambiguous_id, terminal, nonterminal, call, repeated, chosen}
-use Rattle.lalrpop_norm_tree.specs.Symbols.{named, tupled, lookahead, lookbehind, error_terminal, at, no_parts, part_and}
+use Rattle.lalrpop_norm_tree.specs.Symbols.{Kind, Part, Parts, terminal, no_parts, part_and}
+use Rattle.lalrpop_norm_model.specs.Wrappers.{wrapped_kind, wrapped_part}
 use Rattle.lalrpop_norm_model.specs.Features.{Features}
 use Rattle.lalrpop_norm_is_typed.specs.Terminals.{SourceData, is_terminal}
 
--- a symbol that is a terminal under wrappers is one of them
-abbrev mutual
-  pub is_kind_listed : Features → SourceData → Kind → Bool
-  is_kind_listed fs s (terminal t) = is_terminal fs s t
-  is_kind_listed fs s (chosen p) = is_listed fs s p
-  is_kind_listed fs s (named n p) = is_listed fs s p
-  is_kind_listed fs s (tupled ns p) = is_listed fs s p
-  is_kind_listed fs s (nonterminal n) = true
-  is_kind_listed fs s error_terminal = true
-  is_kind_listed fs s (group ps) = true
-  is_kind_listed fs s (ambiguous_id a) = true
-  is_kind_listed fs s (call n ps) = true
-  is_kind_listed fs s (repeated op p) = true
-  is_kind_listed fs s lookahead = true
-  is_kind_listed fs s lookbehind = true
+abbrev pub is_leaf_listed : Features → SourceData → Kind → Bool
+is_leaf_listed fs s (terminal t) = is_terminal fs s t
+is_leaf_listed fs s _ = true
 
-  pub is_listed : Features → SourceData → Part → Bool
-  is_listed fs s (at span k) = is_kind_listed fs s k
+-- a symbol that is a terminal under wrappers is one of them
+abbrev pub is_kind_listed : Features → SourceData → Kind → Bool
+is_kind_listed fs s k = is_leaf_listed fs s (wrapped_kind k)
+
+abbrev pub is_listed : Features → SourceData → Part → Bool
+is_listed fs s p = is_leaf_listed fs s (wrapped_part p)
 
 abbrev pub are_listed : Features → SourceData → Parts → Bool
 are_listed fs s no_parts = true

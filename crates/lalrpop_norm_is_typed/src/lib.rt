@@ -24,7 +24,8 @@ use used::are_items_listed;
 /// distinct; and each terminal in an alternative is one of them. The terminals are those that the active conversions of the first
 /// extern enum name, or where there is no enum, those that the entries of the tokenizer name.
 pub fn is_typed<L>(session: &Session<L>, grammar: &Grammar, types: &Types) -> bool
-    ensures { result ≡ true ↔ IsTyped (features_view session.now.features) (grammar_view grammar.now) (types_by_name (type_table types.now)) }
+    ensures { result ≡ true
+        ↔ IsTyped (features_view session.now.features) (grammar_view grammar.now) (types_by_name (type_table types.now)) }
 {
     is_typed_by(session, grammar, types)
 }

@@ -4,7 +4,9 @@ ghost use Rattle.lalrpop_norm_tree.specs.Items.{conversion_view, grammar_view};
 ghost use Rattle.lalrpop_norm_model.specs.Terminals.{same_terminal};
 ghost use Rattle.lalrpop_norm_model.specs.TerminalTypes.{intern_entries};
 ghost use Rattle.lalrpop_norm_session.specs.Sessions.{features_view};
-ghost use Rattle.lalrpop_norm_is_typed.specs.Terminals.{source_view, source_of, is_terminal, are_terminals_distinct, are_conversions_distinct, is_converted_again, is_converted, is_conversion_of, are_entries_distinct, is_entered_again, is_entered, is_mapping_to};
+ghost use Rattle.lalrpop_norm_is_typed.specs.Terminals.{source_view, source_of, is_terminal, are_terminals_distinct};
+ghost use Rattle.lalrpop_norm_is_typed.specs.Terminals.{are_conversions_distinct, is_converted_again, is_converted, is_conversion_of};
+ghost use Rattle.lalrpop_norm_is_typed.specs.Terminals.{are_entries_distinct, is_entered_again, is_entered, is_mapping_to};
 
 use lalrpop_norm_session::{Session, cfg_active};
 use lalrpop_norm_tree::grammar::parse_tree::{
@@ -82,7 +84,8 @@ fn is_converted_again<L>(
     conversion: &Conversion,
     others: &[Conversion],
 ) -> bool
-    ensures { result ≡ is_converted_again (features_view session.now.features) (conversion_view conversion.now) (map conversion_view others.now) }
+    ensures { result
+        ≡ is_converted_again (features_view session.now.features) (conversion_view conversion.now) (map conversion_view others.now) }
 {
     cfg_active(session, &conversion.attributes) && is_converted(session, others, &conversion.from)
 }

@@ -46,7 +46,9 @@ fn are_alternatives_listed<L>(
     source: Source,
     alternatives: &[Alternative],
 ) -> bool
-    ensures { result ≡ list_all (is_alternative_listed (features_view session.now.features) (source_view source.entry)) (map alternative_view alternatives.now) }
+    ensures { result
+        ≡ list_all (is_alternative_listed (features_view session.now.features) (source_view source.entry))
+        (map alternative_view alternatives.now) }
 {
     for alternative in alternatives {
         if !are_listed(session, source, &alternative.expr.symbols) {

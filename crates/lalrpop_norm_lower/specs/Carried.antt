@@ -12,8 +12,7 @@ use Rattle.lalrpop_norm_tree.specs.LoweredTypes.{repr_of, named_path}
 use Rattle.lalrpop_norm_tree_patterns.specs.Patterns.{PatternData, pattern_at, tuple_struct, pattern_and, no_patterns, number}
 use Rattle.lalrpop_norm_tree_patterns.specs.Patterns.{chosen as chosen_type}
 use Rattle.lalrpop_norm_tree_parts.specs.Reprs.{ReprData, of_lifetime, input_str, LoweredClause, has_bound}
-use Rattle.lalrpop_norm_tree.specs.Symbols.{Kind, group, ambiguous_id, terminal, nonterminal, call, repeated, chosen, named}
-use Rattle.lalrpop_norm_tree.specs.Symbols.{tupled, lookahead, lookbehind, error_terminal, Part, at, Parts, no_parts, part_and}
+use Rattle.lalrpop_norm_tree.specs.Symbols.{Kind, chosen, named, tupled, error_terminal, Part, at, Parts, no_parts, part_and}
 use Rattle.lalrpop_norm_tree.specs.Types.{TypeData, ParameterData}
 use Rattle.lalrpop_norm_repr.specs.Lowered.{LoweredParameter}
 use Rattle.lalrpop_norm_model.specs.Scopes.{conversions_in}
@@ -57,14 +56,7 @@ abbrev mutual
   is_error_kind (chosen p) = is_error p
   is_error_kind (named n p) = is_error p
   is_error_kind (tupled ns p) = is_error p
-  is_error_kind (group ps) = false
-  is_error_kind (ambiguous_id a) = false
-  is_error_kind (terminal t) = false
-  is_error_kind (nonterminal n) = false
-  is_error_kind (call n ps) = false
-  is_error_kind (repeated o p) = false
-  is_error_kind lookahead = false
-  is_error_kind lookbehind = false
+  is_error_kind _ = false
 
   -- `!`, also as a selected, named or tuple symbol
   pub is_error : Part → Bool

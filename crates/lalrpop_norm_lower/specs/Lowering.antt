@@ -4,21 +4,22 @@ use Rattle.std.specs.BTreeMap.{insert_entry}
 use Rattle.std.specs.Ordering.{nat_cmp}
 use Rattle.std.specs.Cmp.Lexicographic.{slice_cmp}
 use Rattle.lalrpop_norm_tree_names.specs.declared.names.NonterminalString.{NonterminalString}
+use Rattle.lalrpop_norm_tree_names.specs.declared.names.Span.{Span}
 use Rattle.lalrpop_norm_tree_names.specs.declared.names.TerminalString.TheVariants as terminal_string
 use Rattle.lalrpop_norm_tree.specs.Accessors.{rule_of, is_public}
-use Rattle.lalrpop_norm_tree_parts.specs.Attributes.{no_attributes}
 use Rattle.lalrpop_norm_tree.specs.Items.{AlternativeData, RuleData, ItemData}
 use Rattle.lalrpop_norm_tree_parts.specs.Reprs.{ReprData, unit_type}
-use Rattle.lalrpop_norm_tree.specs.Symbols.{Kind, group, ambiguous_id, terminal, nonterminal, call, repeated, chosen, named}
-use Rattle.lalrpop_norm_tree.specs.Symbols.{tupled, lookahead, lookbehind, error_terminal, Part, at, Parts, no_parts, part_and}
+use Rattle.lalrpop_norm_tree.specs.Symbols.{Kind, terminal, nonterminal, chosen, named, tupled, error_terminal}
+use Rattle.lalrpop_norm_tree.specs.Symbols.{Part, at, Parts, no_parts, part_and}
 use Rattle.lalrpop_norm_tree.specs.SymbolTexts.{kind_text}
+use Rattle.lalrpop_norm_repr.specs.declared.action.ActionFn.{ActionFn}
 use Rattle.lalrpop_norm_repr.specs.declared.symbol.Symbol.{Symbol}
 use Rattle.lalrpop_norm_repr.specs.declared.symbol.Symbol.TheVariants.{Nonterminal, Terminal}
 use Rattle.lalrpop_norm_repr.specs.Productions.{ProductionData, EntryData}
 use Rattle.lalrpop_norm_repr.specs.Tables.{TypeTable, type_of}
 use Rattle.lalrpop_norm_repr.specs.SymbolTypes.{symbol_type}
 pub use Rattle.lalrpop_norm_lower_steps.specs.Code.{is_fallible}
-pub use Rattle.lalrpop_norm_lower_steps.specs.StartSymbols.{start_name, start_alternative}
+pub use Rattle.lalrpop_norm_lower_steps.specs.StartSymbols.{start_name, start_alternative, start_entry_with}
 
 -- ---- rules
 
@@ -36,18 +37,13 @@ public_rules_in (r ∷ rs) = if is_public r.visibility then r ∷ public_rules_i
 -- other symbol is the nonterminal of its text
 abbrev mutual
   pub lowered_kind : Kind → Symbol
-  lowered_kind (group ps) = Nonterminal (record { 0 = kind_text (group ps) })
-  lowered_kind (ambiguous_id a) = Nonterminal (record { 0 = a })
   lowered_kind (terminal t) = Terminal t
   lowered_kind (nonterminal n) = Nonterminal (record { 0 = n })
-  lowered_kind (call n ps) = Nonterminal (record { 0 = kind_text (call n ps) })
-  lowered_kind (repeated o p) = Nonterminal (record { 0 = kind_text (repeated o p) })
+  lowered_kind error_terminal = Terminal terminal_string.Error
   lowered_kind (chosen p) = lowered_symbol p
   lowered_kind (named n p) = lowered_symbol p
   lowered_kind (tupled t p) = lowered_symbol p
-  lowered_kind lookahead = Nonterminal (record { 0 = kind_text lookahead })
-  lowered_kind lookbehind = Nonterminal (record { 0 = kind_text lookbehind })
-  lowered_kind error_terminal = Terminal terminal_string.Error
+  lowered_kind k = Nonterminal (record { 0 = kind_text k })
 
   pub lowered_symbol : Part → Symbol
   lowered_symbol (at s k) = lowered_kind k
@@ -61,10 +57,12 @@ type_or_unit types s = unwrap_or (symbol_type s types) unit_type
 
 -- ---- productions
 
+abbrev pub production_with : NonterminalString → List Symbol → ActionFn → Span → ProductionData
+production_with name symbols action span = record { nonterminal = name; symbols = symbols; action = action; span = span }
+
 -- the production of an alternative, with the action of that number
 abbrev pub production_of : NonterminalString → ℕ → AlternativeData → ProductionData
-production_of name k a =
-    record { nonterminal = name; symbols = lowered_symbols a.parts; action = record { 0 = k }; span = a.span }
+production_of name k a = production_with name (lowered_symbols a.parts) (record { 0 = k }) a.span
 
 -- the productions of a nonterminal; their actions are numbered from k on
 abbrev pub productions_from : NonterminalString → ℕ → List AlternativeData → List ProductionData
@@ -82,26 +80,19 @@ abbrev pub EntryRow : Type 0
 EntryRow = NonterminalString × EntryData
 
 abbrev pub start_entry : List ℕ → ℕ → RuleData → EntryData
-start_entry prefix k r =
-    record {
-      visibility = r.visibility;
-      span = r.span;
-      attributes = no_attributes;
-      productions = production_of (start_name prefix r.name) k (start_alternative r) ∷ [];
-    }
+start_entry prefix k r = start_entry_with r (production_of (start_name prefix r.name) k (start_alternative r))
 
 abbrev pub start_rows : List ℕ → ℕ → List RuleData → List EntryRow
 start_rows prefix k [] = []
 start_rows prefix k (r ∷ rs) = (start_name prefix r.name, start_entry prefix k r) ∷ start_rows prefix (k + 1) rs
 
+-- the entry of a rule with these productions
+abbrev pub entry_with : RuleData → List ProductionData → EntryData
+entry_with r productions =
+    record { visibility = r.visibility; span = r.span; attributes = r.attributes; productions = productions }
+
 abbrev pub rule_entry : ℕ → RuleData → EntryData
-rule_entry k r =
-    record {
-      visibility = r.visibility;
-      span = r.span;
-      attributes = r.attributes;
-      productions = productions_from r.name k r.alternatives;
-    }
+rule_entry k r = entry_with r (productions_from r.name k r.alternatives)
 
 abbrev pub rule_rows : ℕ → List RuleData → List EntryRow
 rule_rows k [] = []

@@ -5,11 +5,10 @@ ghost use Rattle.lalrpop_norm_tree.specs.Items.{alternative_view};
 ghost use Rattle.lalrpop_norm_tree.specs.Symbols.{expr_view};
 ghost use Rattle.lalrpop_norm_tree_parts.specs.Reprs.{repr_view};
 ghost use Rattle.lalrpop_norm_model.specs.LoweringFaults.{code_faults, action_number_faults};
-ghost use Rattle.lalrpop_norm_repr.specs.Actions.{action_defn_view};
 ghost use Rattle.lalrpop_norm_repr.specs.Productions.{production_view};
-ghost use Rattle.lalrpop_norm_lower.specs.Lowering.{lowered_symbols, production_of, productions_from};
-ghost use Rattle.lalrpop_norm_lower.specs.Made.{alternatives_faults, made_action};
-ghost use Rattle.lalrpop_norm_lower.specs.State.{table_by_number};
+ghost use Rattle.lalrpop_norm_lower.specs.Lowering.{lowered_symbols, production_with, production_of, productions_from};
+ghost use Rattle.lalrpop_norm_lower.specs.Made.{alternatives_faults};
+ghost use Rattle.lalrpop_norm_lower.specs.State.{state_actions, action_for};
 
 use crate::bodies::made_action;
 use crate::placeholders::check_code;
@@ -29,11 +28,12 @@ pub(crate) fn lower_alternative(
     ty: &TypeRepr,
     alternative: &Alternative,
 ) -> NormResult<Production>
-    ensures refuses { Refuses result (code_faults (alternative_view alternative.now) ++ action_number_faults (vec_len state.old.actions) alternative.now.span) }
+    ensures refuses { Refuses result (code_faults (alternative_view alternative.now)
+        ++ action_number_faults (vec_len state.old.actions) alternative.now.span) }
     ensures lowered { IfOk result (λ p.
         production_view p ≡ production_of name.now (vec_len state.old.actions) (alternative_view alternative.now)) }
-    ensures adds { OnOk result (map action_defn_view state.new.actions.items
-        ≡ map action_defn_view state.old.actions.items ++ made_action state.old.prefix.now (table_by_number state.old.types.now) (repr_view ty.now) (alternative_view alternative.now) ∷ []) }
+    ensures adds { OnOk result (state_actions state.new
+        ≡ state_actions state.old ++ action_for state.old (repr_view ty.now) (alternative_view alternative.now) ∷ []) }
     ensures count { OnOk result (vec_len state.new.actions ≡ vec_len state.old.actions + 1) }
     ensures given { OnOk result ((state.new.prefix ≡ state.old.prefix) × (state.new.types ≡ state.old.types)) }
     ensures table { OnOk result (state.new.nonterminals ≡ state.old.nonterminals) }
@@ -48,7 +48,8 @@ fn action_of(
     alternative: &Alternative,
     actions: &[ActionFnDefn],
 ) -> NormResult<ActionFn>
-    ensures refuses { Refuses result (code_faults (alternative_view alternative.now) ++ action_number_faults (length actions.now) alternative.now.span) }
+    ensures refuses { Refuses result (code_faults (alternative_view alternative.now)
+        ++ action_number_faults (length actions.now) alternative.now.span) }
     ensures number { IfOk result (λ a. a ≡ record { 0 = length actions.now }) }
     ensures counted { OnOk result (code_faults (alternative_view alternative.now) ≡ []) }
 {
@@ -66,9 +67,9 @@ fn add_production(
 ) -> Result<Production, NoMemory>
     requires counted { code_faults (alternative_view alternative.now) ≡ [] }
     ensures lowered { IfOk result (λ p. production_view p
-        ≡ record { nonterminal = name.now; symbols = lowered_symbols (expr_view alternative.now.expr); action = action; span = alternative.now.span }) }
-    ensures adds { OnOk result (map action_defn_view state.new.actions.items
-        ≡ map action_defn_view state.old.actions.items ++ made_action state.old.prefix.now (table_by_number state.old.types.now) (repr_view ty.now) (alternative_view alternative.now) ∷ []) }
+        ≡ production_with name.now (lowered_symbols (expr_view alternative.now.expr)) action alternative.now.span) }
+    ensures adds { OnOk result (state_actions state.new
+        ≡ state_actions state.old ++ action_for state.old (repr_view ty.now) (alternative_view alternative.now) ∷ []) }
     ensures count { OnOk result (vec_len state.new.actions ≡ vec_len state.old.actions + 1) }
     ensures given { OnOk result ((state.new.prefix ≡ state.old.prefix) × (state.new.types ≡ state.old.types)) }
     ensures table { OnOk result (state.new.nonterminals ≡ state.old.nonterminals) }
@@ -87,8 +88,8 @@ fn add_made_action(
 ) -> Result<(), NoMemory>
     requires symbols { symbols.now ≡ lowered_symbols (expr_view alternative.now.expr) }
     requires counted { code_faults (alternative_view alternative.now) ≡ [] }
-    ensures adds { OnOk result (map action_defn_view state.new.actions.items
-        ≡ map action_defn_view state.old.actions.items ++ made_action state.old.prefix.now (table_by_number state.old.types.now) (repr_view ty.now) (alternative_view alternative.now) ∷ []) }
+    ensures adds { OnOk result (state_actions state.new
+        ≡ state_actions state.old ++ action_for state.old (repr_view ty.now) (alternative_view alternative.now) ∷ []) }
     ensures count { OnOk result (vec_len state.new.actions ≡ vec_len state.old.actions + 1) }
     ensures given { OnOk result ((state.new.prefix ≡ state.old.prefix) × (state.new.types ≡ state.old.types)) }
     ensures table { OnOk result (state.new.nonterminals ≡ state.old.nonterminals) }
@@ -107,7 +108,7 @@ fn production_with(
     action: ActionFn,
     span: Span,
 ) -> Result<Production, NoMemory>
-    ensures { IfOk result (λ p. production_view p ≡ record { nonterminal = name.now; symbols = symbols.items; action = action; span = span }) }
+    ensures { IfOk result (λ p. production_view p ≡ production_with name.now symbols.items action span) }
 {
     Ok(Production {
         nonterminal: name.clone()?,
@@ -128,8 +129,8 @@ pub(crate) fn lower_alternatives(
     ensures refuses { Refuses result (alternatives_faults (vec_len state.old.actions) (map alternative_view alternatives.items)) }
     ensures lowered { IfOk result (λ ps. map production_view ps.items
         ≡ productions_from name.now (vec_len state.old.actions) (map alternative_view alternatives.items)) }
-    ensures adds { OnOk result (map action_defn_view state.new.actions.items
-        ≡ map action_defn_view state.old.actions.items ++ map (made_action state.old.prefix.now (table_by_number state.old.types.now) (repr_view ty.now)) (map alternative_view alternatives.items)) }
+    ensures adds { OnOk result (state_actions state.new
+        ≡ state_actions state.old ++ map (action_for state.old (repr_view ty.now)) (map alternative_view alternatives.items)) }
     ensures count { OnOk result (vec_len state.new.actions ≡ vec_len state.old.actions + length (map alternative_view alternatives.items)) }
     ensures given { OnOk result ((state.new.prefix ≡ state.old.prefix) × (state.new.types ≡ state.old.types)) }
     ensures table { OnOk result (state.new.nonterminals ≡ state.old.nonterminals) }
@@ -149,11 +150,13 @@ fn add_lowered(
     alternative: &Alternative,
     productions: &mut Vec<Production>,
 ) -> NormResult<()>
-    ensures refuses { Refuses result (code_faults (alternative_view alternative.now) ++ action_number_faults (vec_len state.old.actions) alternative.now.span) }
+    ensures refuses { Refuses result (code_faults (alternative_view alternative.now)
+        ++ action_number_faults (vec_len state.old.actions) alternative.now.span) }
     ensures lowered { OnOk result (map production_view productions.new.items
-        ≡ map production_view productions.old.items ++ production_of name.now (vec_len state.old.actions) (alternative_view alternative.now) ∷ []) }
-    ensures adds { OnOk result (map action_defn_view state.new.actions.items
-        ≡ map action_defn_view state.old.actions.items ++ made_action state.old.prefix.now (table_by_number state.old.types.now) (repr_view ty.now) (alternative_view alternative.now) ∷ []) }
+        ≡ map production_view productions.old.items
+        ++ production_of name.now (vec_len state.old.actions) (alternative_view alternative.now) ∷ []) }
+    ensures adds { OnOk result (state_actions state.new
+        ≡ state_actions state.old ++ action_for state.old (repr_view ty.now) (alternative_view alternative.now) ∷ []) }
     ensures count { OnOk result (vec_len state.new.actions ≡ vec_len state.old.actions + 1) }
     ensures given { OnOk result ((state.new.prefix ≡ state.old.prefix) × (state.new.types ≡ state.old.types)) }
     ensures table { OnOk result (state.new.nonterminals ≡ state.old.nonterminals) }

@@ -6,9 +6,9 @@ ghost use Rattle.lalrpop_norm_tree.specs.Symbols.{expr_view};
 ghost use Rattle.lalrpop_norm_model.specs.LoweringFaults.{code_faults};
 ghost use Rattle.lalrpop_norm_repr.specs.Actions.{action_defn_view, action_kind_view};
 ghost use Rattle.lalrpop_norm_lower.specs.Lowering.{lowered_symbols};
-ghost use Rattle.lalrpop_norm_lower.specs.Made.{made_action, made_code, body, user_body};
+ghost use Rattle.lalrpop_norm_lower.specs.Made.{made_code, body, user_body};
 ghost use Rattle.lalrpop_norm_lower.specs.Sourced.{AreSourcesOf};
-ghost use Rattle.lalrpop_norm_lower.specs.State.{table_by_number};
+ghost use Rattle.lalrpop_norm_lower.specs.State.{state_types, action_for};
 
 use crate::actions::symbol_types;
 use crate::arguments::{Sources, argument_patterns, put_source_names};
@@ -31,7 +31,7 @@ pub(crate) fn made_action(
     requires symbols { symbols.now ≡ lowered_symbols (expr_view alternative.now.expr) }
     requires counted { code_faults (alternative_view alternative.now) ≡ [] }
     ensures { IfOk result (λ d.
-        action_defn_view d ≡ made_action state.now.prefix.now (table_by_number state.now.types.now) (repr_view ty.now) (alternative_view alternative.now)) }
+        action_defn_view d ≡ action_for state.now (repr_view ty.now) (alternative_view alternative.now)) }
 {
     let kind = body(state, ty, alternative, symbols, names)?;
     let ret_type = ty.clone()?;
@@ -53,7 +53,8 @@ fn body(
     requires symbols { symbols.now ≡ lowered_symbols (expr_view alternative.now.expr) }
     requires counted { code_faults (alternative_view alternative.now) ≡ [] }
     ensures { IfOk result (λ k. action_kind_view k
-        ≡ body state.now.prefix.now (table_by_number state.now.types.now) (repr_view ty.now) (alternative_view alternative.now) (option_map action_view alternative.now.action)) }
+        ≡ body state.now.prefix.now (state_types state.now) (repr_view ty.now) (alternative_view alternative.now)
+        (option_map action_view alternative.now.action)) }
 {
     match &alternative.action {
         Some(ActionKind::Lookahead) => Ok(ActionFnDefnKind::Lookaround(
@@ -79,7 +80,7 @@ fn user_body(
     requires symbols { symbols.now ≡ lowered_symbols (expr_view alternative.now.expr) }
     requires counted { code_faults (alternative_view alternative.now) ≡ [] }
     ensures { IfOk result (λ k.
-        action_kind_view k ≡ user_body state.now.prefix.now (table_by_number state.now.types.now) (repr_view ty.now) (alternative_view alternative.now)) }
+        action_kind_view k ≡ user_body state.now.prefix.now (state_types state.now) (repr_view ty.now) (alternative_view alternative.now)) }
 {
     let expr = &alternative.expr;
     let sources = Sources::among(&expr.symbols);

@@ -19,7 +19,8 @@ pub(crate) fn lowered_clauses(
     alloc: Global,
     clauses: &[pt::WhereClause<TypeRef>],
 ) -> Result<Vec<WhereClause>, NoMemory>
-    ensures { IfOk result (λ cs. map lowered_where_clause_view cs.items ≡ flat_map lowered_clauses (map (where_clause_view type_view) clauses.now)) }
+    ensures { IfOk result
+        (λ cs. map lowered_where_clause_view cs.items ≡ flat_map lowered_clauses (map (where_clause_view type_view) clauses.now)) }
 {
     let mut lowered = Vec::new(alloc);
     for clause in clauses {
@@ -50,7 +51,8 @@ fn add_lifetimes(
     lowered: &mut Vec<WhereClause>,
 ) -> Result<(), NoMemory>
     ensures { OnOk result (map lowered_where_clause_view lowered.new.items
-        ≡ map lowered_where_clause_view lowered.old.items ++ map (λ m. has_bound (of_lifetime lifetime.now) (lifetime_bound m)) bounds.now) }
+        ≡ map lowered_where_clause_view lowered.old.items
+        ++ map (λ m. has_bound (of_lifetime lifetime.now) (lifetime_bound m)) bounds.now) }
 {
     for bound in bounds {
         lowered.push(outlives(lifetime, bound)?)?;
@@ -82,7 +84,8 @@ fn add_bounds(
 ) -> Result<(), NoMemory>
     ensures { OnOk result (map lowered_where_clause_view lowered.new.items
         ≡ map lowered_where_clause_view lowered.old.items
-        ++ map (λ b. under forall.now.items (has_bound (repr_of (type_view ty.now)) (lowered_bound b))) (map (bound_view type_view) bounds.now)) }
+        ++ map (λ b. under forall.now.items (has_bound (repr_of (type_view ty.now)) (lowered_bound b)))
+        (map (bound_view type_view) bounds.now)) }
 {
     for bound in bounds {
         lowered.push(clause_under(alloc, forall, ty, bound)?)?;
@@ -109,7 +112,8 @@ fn plain_clause(
     ty: &TypeRef,
     bound: &TypeBound<TypeRef>,
 ) -> Result<WhereClause, NoMemory>
-    ensures { IfOk result (λ c. lowered_where_clause_view c ≡ has_bound (repr_of (type_view ty.now)) (lowered_bound (bound_view type_view bound.now))) }
+    ensures { IfOk result
+        (λ c. lowered_where_clause_view c ≡ has_bound (repr_of (type_view ty.now)) (lowered_bound (bound_view type_view bound.now))) }
 {
     let subject = ty.lowered(alloc)?;
     Ok(clause_of(subject, lowered_bound(alloc, bound)?))

@@ -27,8 +27,10 @@ pub(crate) struct Head {
 pub(crate) fn head_of(alloc: Global, grammar: &pt::Grammar) -> Result<Head, NoMemory>
     ensures prefix { IfOk result (λ h. string_bytes h.prefix ≡ (grammar_view grammar.now).prefix) }
     ensures uses { IfOk result (λ h. map string_bytes h.uses.items ≡ filter_map use_of (grammar_view grammar.now).items) }
-    ensures intern_token { IfOk result (λ h. option_map intern_token_view h.intern_token ≡ first_of intern_token_of (grammar_view grammar.now).items) }
-    ensures module_attributes { IfOk result (λ h. map string_bytes h.module_attributes.items ≡ (grammar_view grammar.now).module_attributes) }
+    ensures intern_token { IfOk result
+        (λ h. option_map intern_token_view h.intern_token ≡ first_of intern_token_of (grammar_view grammar.now).items) }
+    ensures module_attributes { IfOk result
+        (λ h. map string_bytes h.module_attributes.items ≡ (grammar_view grammar.now).module_attributes) }
 {
     Ok(Head {
         prefix: String::from_str(alloc, grammar.prefix.as_str())?,
@@ -49,8 +51,10 @@ pub(crate) struct Signature {
 /// The parameters and `where` clauses of a grammar, their types lowered.
 pub(crate) fn signature_of(alloc: Global, grammar: &pt::Grammar) -> Result<Signature, NoMemory>
     ensures type_parameters { IfOk result (λ s. s.type_parameters.items ≡ (grammar_view grammar.now).type_parameters) }
-    ensures parameters { IfOk result (λ s. map lowered_parameter_view s.parameters.items ≡ map lowered_parameter (grammar_view grammar.now).parameters) }
-    ensures where_clauses { IfOk result (λ s. map lowered_where_clause_view s.where_clauses.items ≡ flat_map lowered_clauses (grammar_view grammar.now).where_clauses) }
+    ensures parameters { IfOk result
+        (λ s. map lowered_parameter_view s.parameters.items ≡ map lowered_parameter (grammar_view grammar.now).parameters) }
+    ensures where_clauses { IfOk result
+        (λ s. map lowered_where_clause_view s.where_clauses.items ≡ flat_map lowered_clauses (grammar_view grammar.now).where_clauses) }
 {
     Ok(Signature {
         type_parameters: copy_type_parameters(&grammar.type_parameters)?,

@@ -4,13 +4,15 @@ ghost use Rattle.lalrpop_norm_faults.specs.Faults.{Refuses};
 ghost use Rattle.lalrpop_norm_tree_parts.specs.Reprs.{repr_view};
 ghost use Rattle.lalrpop_norm_tree.specs.Items.{alternative_view, rule_view, item_view};
 ghost use Rattle.lalrpop_norm_model.specs.LoweringFaults.{start_faults, action_number_faults};
-ghost use Rattle.lalrpop_norm_repr.specs.Actions.{action_defn_view};
 ghost use Rattle.lalrpop_norm_repr.specs.Productions.{nonterminal_data_view, production_view};
-ghost use Rattle.lalrpop_norm_repr.specs.Tables.{rows};
 ghost use Rattle.lalrpop_norm_lower.specs.Carried.{uses_recovery};
-ghost use Rattle.lalrpop_norm_lower.specs.Lowering.{rule_type, rule_entry, rule_rows, rules_among, with_entry, start_entry, start_rows, start_name, start_alternative, production_of, productions_from, sorted_onto};
-ghost use Rattle.lalrpop_norm_lower.specs.Made.{types_by_name, alternatives_faults, made_starts_faults, made_rules_faults, made_action, made_starts, made_actions};
-ghost use Rattle.lalrpop_norm_lower.specs.State.{table_by_number, IsTypeAt, AreTypesFrom};
+ghost use Rattle.lalrpop_norm_lower.specs.Lowering.{rule_type, entry_with, rule_entry, rule_rows, rules_among};
+ghost use Rattle.lalrpop_norm_lower.specs.Lowering.{with_entry, start_entry, start_rows, start_name, start_alternative};
+ghost use Rattle.lalrpop_norm_lower.specs.Lowering.{production_of, productions_from, sorted_onto};
+ghost use Rattle.lalrpop_norm_lower.specs.Made.{types_by_name, alternatives_faults, made_starts_faults};
+ghost use Rattle.lalrpop_norm_lower.specs.Made.{made_rules_faults, made_starts, made_actions};
+ghost use Rattle.lalrpop_norm_lower.specs.State.{state_types, state_actions, state_nonterminals};
+ghost use Rattle.lalrpop_norm_lower.specs.State.{action_for, rules_in, IsTypeAt, AreTypesFrom};
 ghost use Rattle.lalrpop_norm_lower.specs.Starts.{start_rule, start_typed};
 ghost use Rattle.lalrpop_norm_lower.specs.Typing.{start_types};
 
@@ -32,12 +34,14 @@ use std::mem;
 /// The start symbol of a public rule.
 fn lower_start(state: &mut LowerState, start: &Start) -> NormResult<NonterminalData>
     requires name { start.now.name ≡ start_name state.old.prefix.now start.now.rule.now.name }
-    requires ty { repr_view start.now.ty ≡ rule_type (table_by_number state.old.types.now) (start_rule start.now) }
-    ensures refuses { Refuses result (start_faults state.old.prefix.now (types_by_name (table_by_number state.old.types.now)) (start_rule start.now) ++ action_number_faults (vec_len state.old.actions) start.now.rule.now.span) }
+    requires ty { repr_view start.now.ty ≡ rule_type (state_types state.old) (start_rule start.now) }
+    ensures refuses { Refuses result (start_faults state.old.prefix.now (types_by_name (state_types state.old)) (start_rule start.now)
+        ++ action_number_faults (vec_len state.old.actions) start.now.rule.now.span) }
     ensures lowered { IfOk result (λ n.
         nonterminal_data_view n ≡ start_entry state.old.prefix.now (vec_len state.old.actions) (start_rule start.now)) }
-    ensures adds { OnOk result (map action_defn_view state.new.actions.items ≡ map action_defn_view state.old.actions.items
-        ++ made_action state.old.prefix.now (table_by_number state.old.types.now) (rule_type (table_by_number state.old.types.now) (start_rule start.now)) (start_alternative (start_rule start.now)) ∷ []) }
+    ensures adds { OnOk result (state_actions state.new ≡ state_actions state.old
+        ++ action_for state.old (rule_type (state_types state.old) (start_rule start.now))
+        (start_alternative (start_rule start.now)) ∷ []) }
     ensures count { OnOk result (vec_len state.new.actions ≡ vec_len state.old.actions + 1) }
     ensures given { OnOk result ((state.new.prefix ≡ state.old.prefix) × (state.new.types ≡ state.old.types)) }
     ensures table { OnOk result (state.new.nonterminals ≡ state.old.nonterminals) }
@@ -58,8 +62,8 @@ fn start_production(state: &mut LowerState, start: &Start) -> NormResult<Product
     ensures refuses { Refuses result (action_number_faults (vec_len state.old.actions) start.now.rule.now.span) }
     ensures lowered { IfOk result (λ p.
         production_view p ≡ production_of start.now.name (vec_len state.old.actions) (start_alternative (start_rule start.now))) }
-    ensures adds { OnOk result (map action_defn_view state.new.actions.items ≡ map action_defn_view state.old.actions.items
-        ++ made_action state.old.prefix.now (table_by_number state.old.types.now) (repr_view start.now.ty) (start_alternative (start_rule start.now)) ∷ []) }
+    ensures adds { OnOk result (state_actions state.new ≡ state_actions state.old
+        ++ action_for state.old (repr_view start.now.ty) (start_alternative (start_rule start.now)) ∷ []) }
     ensures count { OnOk result (vec_len state.new.actions ≡ vec_len state.old.actions + 1) }
     ensures given { OnOk result ((state.new.prefix ≡ state.old.prefix) × (state.new.types ≡ state.old.types)) }
     ensures table { OnOk result (state.new.nonterminals ≡ state.old.nonterminals) }
@@ -77,8 +81,8 @@ fn lower_rule(
     requires { IsTypeAt state.old.types.now number rule.name }
     ensures refuses { Refuses result (alternatives_faults (vec_len state.old.actions) (rule_view rule).alternatives) }
     ensures lowered { IfOk result (λ n. nonterminal_data_view n ≡ rule_entry (vec_len state.old.actions) (rule_view rule)) }
-    ensures adds { OnOk result (map action_defn_view state.new.actions.items ≡ map action_defn_view state.old.actions.items
-        ++ map (made_action state.old.prefix.now (table_by_number state.old.types.now) (rule_type (table_by_number state.old.types.now) (rule_view rule))) (rule_view rule).alternatives) }
+    ensures adds { OnOk result (state_actions state.new ≡ state_actions state.old
+        ++ map (action_for state.old (rule_type (state_types state.old) (rule_view rule))) (rule_view rule).alternatives) }
     ensures count { OnOk result (vec_len state.new.actions ≡ vec_len state.old.actions + length (rule_view rule).alternatives) }
     ensures given { OnOk result ((state.new.prefix ≡ state.old.prefix) × (state.new.types ≡ state.old.types)) }
     ensures table { OnOk result (state.new.nonterminals ≡ state.old.nonterminals) }
@@ -97,9 +101,10 @@ fn rule_productions(
 ) -> NormResult<Vec<Production>>
     requires { IsTypeAt state.old.types.now number rule.now.name }
     ensures refuses { Refuses result (alternatives_faults (vec_len state.old.actions) (map alternative_view alternatives.items)) }
-    ensures lowered { IfOk result (λ ps. map production_view ps.items ≡ productions_from rule.now.name (vec_len state.old.actions) (map alternative_view alternatives.items)) }
-    ensures adds { OnOk result (map action_defn_view state.new.actions.items ≡ map action_defn_view state.old.actions.items
-        ++ map (made_action state.old.prefix.now (table_by_number state.old.types.now) (rule_type (table_by_number state.old.types.now) (rule_view rule.now))) (map alternative_view alternatives.items)) }
+    ensures lowered { IfOk result (λ ps. map production_view ps.items
+        ≡ productions_from rule.now.name (vec_len state.old.actions) (map alternative_view alternatives.items)) }
+    ensures adds { OnOk result (state_actions state.new ≡ state_actions state.old
+        ++ map (action_for state.old (rule_type (state_types state.old) (rule_view rule.now))) (map alternative_view alternatives.items)) }
     ensures count { OnOk result (vec_len state.new.actions ≡ vec_len state.old.actions + length (map alternative_view alternatives.items)) }
     ensures given { OnOk result ((state.new.prefix ≡ state.old.prefix) × (state.new.types ≡ state.old.types)) }
     ensures table { OnOk result (state.new.nonterminals ≡ state.old.nonterminals) }
@@ -116,7 +121,7 @@ fn rule_data(
     productions: Vec<Production>,
 ) -> NonterminalData
     ensures { nonterminal_data_view result
-        ≡ record { visibility = (rule_view rule).visibility; span = rule.span; attributes = (rule_view rule).attributes; productions = map production_view productions.items } }
+        ≡ entry_with (rule_view rule) (map production_view productions.items) }
 {
     NonterminalData {
         visibility: mem::replace(&mut rule.visibility, Visibility::Priv),
@@ -128,12 +133,14 @@ fn rule_data(
 
 /// The start symbols of the public rules.
 pub(crate) fn lower_starts(state: &mut LowerState, starts: &[Start]) -> NormResult<()>
-    requires { map start_typed starts.now ≡ start_types state.old.prefix.now (table_by_number state.old.types.now) (map start_rule starts.now) }
-    ensures refuses { Refuses result (made_starts_faults state.old.prefix.now (table_by_number state.old.types.now) (vec_len state.old.actions) (map start_rule starts.now)) }
-    ensures table { OnOk result (rows nonterminal_data_view state.new.nonterminals
-        ≡ sorted_onto (rows nonterminal_data_view state.old.nonterminals) (start_rows state.old.prefix.now (vec_len state.old.actions) (map start_rule starts.now))) }
-    ensures adds { OnOk result (map action_defn_view state.new.actions.items
-        ≡ map action_defn_view state.old.actions.items ++ made_starts state.old.prefix.now (table_by_number state.old.types.now) (map start_rule starts.now)) }
+    requires { map start_typed starts.now ≡ start_types state.old.prefix.now (state_types state.old) (map start_rule starts.now) }
+    ensures refuses { Refuses result
+        (made_starts_faults state.old.prefix.now (state_types state.old) (vec_len state.old.actions) (map start_rule starts.now)) }
+    ensures table { OnOk result (state_nonterminals state.new
+        ≡ sorted_onto (state_nonterminals state.old)
+        (start_rows state.old.prefix.now (vec_len state.old.actions) (map start_rule starts.now))) }
+    ensures adds { OnOk result (state_actions state.new
+        ≡ state_actions state.old ++ made_starts state.old.prefix.now (state_types state.old) (map start_rule starts.now)) }
     ensures count { OnOk result (vec_len state.new.actions ≡ vec_len state.old.actions + length starts.now) }
     ensures given { OnOk result ((state.new.prefix ≡ state.old.prefix) × (state.new.types ≡ state.old.types)) }
 {
@@ -149,10 +156,10 @@ pub(crate) fn lower_starts(state: &mut LowerState, starts: &[Start]) -> NormResu
 fn add_rule(state: &mut LowerState, number: usize, rule: pt::NonterminalData) -> NormResult<()>
     requires { IsTypeAt state.old.types.now number rule.name }
     ensures refuses { Refuses result (alternatives_faults (vec_len state.old.actions) (rule_view rule).alternatives) }
-    ensures table { OnOk result (rows nonterminal_data_view state.new.nonterminals
-        ≡ with_entry (rows nonterminal_data_view state.old.nonterminals) (rule.name, rule_entry (vec_len state.old.actions) (rule_view rule))) }
-    ensures adds { OnOk result (map action_defn_view state.new.actions.items ≡ map action_defn_view state.old.actions.items
-        ++ map (made_action state.old.prefix.now (table_by_number state.old.types.now) (rule_type (table_by_number state.old.types.now) (rule_view rule))) (rule_view rule).alternatives) }
+    ensures table { OnOk result (state_nonterminals state.new
+        ≡ with_entry (state_nonterminals state.old) (rule.name, rule_entry (vec_len state.old.actions) (rule_view rule))) }
+    ensures adds { OnOk result (state_actions state.new ≡ state_actions state.old
+        ++ map (action_for state.old (rule_type (state_types state.old) (rule_view rule))) (rule_view rule).alternatives) }
     ensures count { OnOk result (vec_len state.new.actions ≡ vec_len state.old.actions + length (rule_view rule).alternatives) }
     ensures given { OnOk result ((state.new.prefix ≡ state.old.prefix) × (state.new.types ≡ state.old.types)) }
 {
@@ -165,14 +172,14 @@ fn add_rule(state: &mut LowerState, number: usize, rule: pt::NonterminalData) ->
 /// and its room in the list given back in time, so what is made of the later ones finds room there.
 #[tactic(auto, using(crate::proofs::LoopLemmas::rule_skipped))]
 pub(crate) fn lower_rules(state: &mut LowerState, items: Vec<GrammarItem>) -> NormResult<bool>
-    requires { AreTypesFrom state.old.types.now 0 (rules_among (map item_view items.items)) }
-    ensures refuses { Refuses result (made_rules_faults (vec_len state.old.actions) (rules_among (map item_view items.items))) }
-    ensures table { OnOk result (rows nonterminal_data_view state.new.nonterminals
-        ≡ sorted_onto (rows nonterminal_data_view state.old.nonterminals) (rule_rows (vec_len state.old.actions) (rules_among (map item_view items.items)))) }
-    ensures adds { OnOk result (map action_defn_view state.new.actions.items
-        ≡ map action_defn_view state.old.actions.items ++ made_actions state.old.prefix.now (table_by_number state.old.types.now) (rules_among (map item_view items.items))) }
+    requires { AreTypesFrom state.old.types.now 0 (rules_in items.items) }
+    ensures refuses { Refuses result (made_rules_faults (vec_len state.old.actions) (rules_in items.items)) }
+    ensures table { OnOk result (state_nonterminals state.new
+        ≡ sorted_onto (state_nonterminals state.old) (rule_rows (vec_len state.old.actions) (rules_in items.items))) }
+    ensures adds { OnOk result (state_actions state.new
+        ≡ state_actions state.old ++ made_actions state.old.prefix.now (state_types state.old) (rules_in items.items)) }
     ensures given { OnOk result ((state.new.prefix ≡ state.old.prefix) × (state.new.types ≡ state.old.types)) }
-    ensures recovers { IfOk result (λ b. b ≡ uses_recovery (rules_among (map item_view items.items))) }
+    ensures recovers { IfOk result (λ b. b ≡ uses_recovery (rules_in items.items)) }
 {
     let mut left = items;
     left.reverse();
@@ -193,7 +200,8 @@ pub(crate) fn lower_rules(state: &mut LowerState, items: Vec<GrammarItem>) -> No
 /// Whether `!` is known to occur in a rule, where the one that comes next is looked at too, of those that are left in falling
 /// order: while the rule before it is lowered, its alternatives are on their way from memory.
 fn sees_error(recovers: bool, left: &[GrammarItem]) -> bool
-    ensures { (result || uses_recovery (rules_among (map item_view (reverse left.now)))) ≡ (recovers || uses_recovery (rules_among (map item_view (reverse left.now)))) }
+    ensures { (result || uses_recovery (rules_among (map item_view (reverse left.now))))
+        ≡ (recovers || uses_recovery (rules_among (map item_view (reverse left.now)))) }
 {
     match left.last() {
         Some(GrammarItem::Nonterminal(rule)) => recovers || some_error(&rule.alternatives),
@@ -242,7 +250,8 @@ fn most_symbols(alternatives: &[Alternative]) -> usize {
 /// Takes the item that comes next, of those that are left in falling order.
 #[tactic(auto, using(crate::proofs::LoopLemmas::last_first, crate::proofs::LoopLemmas::none_left))]
 fn next_item(left: &mut Vec<GrammarItem>) -> Result<Option<GrammarItem>, NoMemory>
-    ensures next { IfOk result (λ o. MatchOption o (reverse left.old.items ≡ []) (λ i. reverse left.old.items ≡ i ∷ reverse left.new.items)) }
+    ensures next { IfOk result
+        (λ o. MatchOption o (reverse left.old.items ≡ []) (λ i. reverse left.old.items ≡ i ∷ reverse left.new.items)) }
     ensures fewer { IfOk result (λ o. MatchOption o ⊤ (λ _. vec_len left.new < vec_len left.old)) }
 {
     let item = left.pop();

@@ -33,7 +33,8 @@ impl<'t> NumberedTypes<'t> {
         requires distinct { IsDistinct (map (λ r. r.name.0) (rules_among (map item_view items.now))) }
         requires numbering { IsNumbering (map (λ r. r.name.0) (rules_among (map item_view items.now))) names }
         ensures table { IfOk result (λ n. n.table.now ≡ table.now) }
-        ensures types { IfOk result (λ n. map (option_map (λ t. repr_view t.now)) n.by_number.items ≡ map (λ r. type_of r.name (type_table table.now)) (rules_among (map item_view items.now))) }
+        ensures types { IfOk result (λ n. map (option_map (λ t. repr_view t.now)) n.by_number.items
+            ≡ map (λ r. type_of r.name (type_table table.now)) (rules_among (map item_view items.now))) }
     {
         let by_number = types_of(alloc, table, items, &names)?;
         Ok(NumberedTypes {
@@ -56,7 +57,8 @@ impl<'t> NumberedTypes<'t> {
     /// The type of the rule of that number, if it has one: no name is looked up.
     pub(crate) fn at(&self, number: usize) -> Option<&'t TypeRepr>
         requires { number < vec_len self.now.by_number }
-        ensures { slice_get (map (option_map (λ t. repr_view t.now)) self.now.by_number.items) number ≡ Some (option_map (λ t. repr_view t.now) result) }
+        ensures { slice_get (map (option_map (λ t. repr_view t.now)) self.now.by_number.items) number
+            ≡ Some (option_map (λ t. repr_view t.now) result) }
     {
         self.by_number[number]
     }
@@ -111,8 +113,10 @@ fn types_of<'t>(
     names: &Names,
 ) -> Result<Vec<Option<&'t TypeRepr>>, NoMemory>
     requires { IsNumbering (map (λ r. r.name.0) (rules_among (map item_view items.now))) names.now }
-    ensures types { IfOk result (λ ts. AreTypesByNumber (type_table table.now) names.now (map (option_map (λ t. repr_view t.now)) ts.items)) }
-    ensures count { IfOk result (λ ts. length (map (option_map (λ t. repr_view t.now)) ts.items) ≡ length (rules_among (map item_view items.now))) }
+    ensures types { IfOk result
+        (λ ts. AreTypesByNumber (type_table table.now) names.now (map (option_map (λ t. repr_view t.now)) ts.items)) }
+    ensures count { IfOk result
+        (λ ts. length (map (option_map (λ t. repr_view t.now)) ts.items) ≡ length (rules_among (map item_view items.now))) }
 {
     let mut types = vec![in alloc; None; count_rules(items)]?;
     for (name, ty) in table.nonterminals() {

@@ -2,16 +2,13 @@
 ghost use Rattle.std.specs.Prelude.{◌≡◌, ◌+◌, ◌++◌, [], IfOk, OnOk, length, map, vec_len};
 ghost use Rattle.lalrpop_norm_faults.specs.Faults.{Refuses};
 ghost use Rattle.lalrpop_norm_theory.specs.Rounds.{IsDistinct};
-ghost use Rattle.lalrpop_norm_tree.specs.Items.{item_view};
 ghost use Rattle.lalrpop_norm_names.specs.Numbers.{IsNumbering};
-ghost use Rattle.lalrpop_norm_repr.specs.Actions.{action_defn_view};
-ghost use Rattle.lalrpop_norm_repr.specs.Productions.{nonterminal_data_view};
-ghost use Rattle.lalrpop_norm_repr.specs.Tables.{type_table, rows};
-ghost use Rattle.lalrpop_norm_lower.specs.Lowering.{rules_among, public_rules_in, start_names, start_rows, sorted_onto};
+ghost use Rattle.lalrpop_norm_repr.specs.Tables.{type_table};
+ghost use Rattle.lalrpop_norm_lower.specs.Lowering.{public_rules_in, start_names, start_rows, sorted_onto};
 ghost use Rattle.lalrpop_norm_lower.specs.Made.{made_faults, made_starts_faults, made_starts};
 ghost use Rattle.lalrpop_norm_lower.specs.Produced.{IsProduced};
 ghost use Rattle.lalrpop_norm_lower.specs.Starts.{start_rule, start_named, start_typed, typed_row};
-ghost use Rattle.lalrpop_norm_lower.specs.State.{table_by_number, AreTypesFrom};
+ghost use Rattle.lalrpop_norm_lower.specs.State.{table_by_number, state_types, state_actions, state_nonterminals, rules_in, AreTypesFrom};
 ghost use Rattle.lalrpop_norm_lower.specs.Typing.{start_types};
 
 use crate::nonterminals::{lower_rules, lower_starts};
@@ -47,10 +44,10 @@ pub(crate) fn produce(
     types: &Types,
     names: Names,
 ) -> NormResult<Produced>
-    requires distinct { IsDistinct (map (λ r. r.name.0) (rules_among (map item_view items.items))) }
-    requires numbering { IsNumbering (map (λ r. r.name.0) (rules_among (map item_view items.items))) names }
-    ensures refuses { Refuses result (made_faults prefix.now (type_table types.now) (rules_among (map item_view items.items))) }
-    ensures produced { IfOk result (IsProduced prefix.now (type_table types.now) (rules_among (map item_view items.items))) }
+    requires distinct { IsDistinct (map (λ r. r.name.0) (rules_in items.items)) }
+    requires numbering { IsNumbering (map (λ r. r.name.0) (rules_in items.items)) names }
+    ensures refuses { Refuses result (made_faults prefix.now (type_table types.now) (rules_in items.items)) }
+    ensures produced { IfOk result (IsProduced prefix.now (type_table types.now) (rules_in items.items)) }
 {
     let types = NumberedTypes::of(alloc, types, &items, names)?;
     produce_by(alloc, prefix, items, &types)
@@ -63,9 +60,9 @@ fn produce_by(
     items: Vec<GrammarItem>,
     types: &NumberedTypes,
 ) -> NormResult<Produced>
-    requires { AreTypesFrom types.now 0 (rules_among (map item_view items.items)) }
-    ensures refuses { Refuses result (made_faults prefix.now (table_by_number types.now) (rules_among (map item_view items.items))) }
-    ensures produced { IfOk result (IsProduced prefix.now (table_by_number types.now) (rules_among (map item_view items.items))) }
+    requires { AreTypesFrom types.now 0 (rules_in items.items) }
+    ensures refuses { Refuses result (made_faults prefix.now (table_by_number types.now) (rules_in items.items)) }
+    ensures produced { IfOk result (IsProduced prefix.now (table_by_number types.now) (rules_in items.items)) }
 {
     let mut state = LowerState {
         alloc,
@@ -110,15 +107,19 @@ fn start(
         Vec<(NonterminalString, TypeRepr)>,
     ),
 >
-    ensures refuses { Refuses result (made_starts_faults state.old.prefix.now (table_by_number state.old.types.now) (vec_len state.old.actions) (public_rules_in (rules_among (map item_view items.now)))) }
-    ensures table { OnOk result (rows nonterminal_data_view state.new.nonterminals
-        ≡ sorted_onto (rows nonterminal_data_view state.old.nonterminals) (start_rows state.old.prefix.now (vec_len state.old.actions) (public_rules_in (rules_among (map item_view items.now))))) }
-    ensures adds { OnOk result (map action_defn_view state.new.actions.items
-        ≡ map action_defn_view state.old.actions.items ++ made_starts state.old.prefix.now (table_by_number state.old.types.now) (public_rules_in (rules_among (map item_view items.now)))) }
-    ensures count { OnOk result (vec_len state.new.actions ≡ vec_len state.old.actions + length (public_rules_in (rules_among (map item_view items.now)))) }
+    ensures refuses { Refuses result (made_starts_faults state.old.prefix.now (state_types state.old) (vec_len state.old.actions)
+        (public_rules_in (rules_in items.now))) }
+    ensures table { OnOk result (state_nonterminals state.new
+        ≡ sorted_onto (state_nonterminals state.old)
+        (start_rows state.old.prefix.now (vec_len state.old.actions) (public_rules_in (rules_in items.now)))) }
+    ensures adds { OnOk result (state_actions state.new
+        ≡ state_actions state.old ++ made_starts state.old.prefix.now (state_types state.old) (public_rules_in (rules_in items.now))) }
+    ensures count { OnOk result (vec_len state.new.actions ≡ vec_len state.old.actions + length (public_rules_in (rules_in items.now))) }
     ensures given { OnOk result ((state.new.prefix ≡ state.old.prefix) × (state.new.types ≡ state.old.types)) }
-    ensures names { IfOk result (λ p. p.0.entries ≡ sorted_onto [] (start_names state.old.prefix.now (public_rules_in (rules_among (map item_view items.now))))) }
-    ensures types { IfOk result (λ p. map typed_row p.1.items ≡ start_types state.old.prefix.now (table_by_number state.old.types.now) (public_rules_in (rules_among (map item_view items.now)))) }
+    ensures names { IfOk result
+        (λ p. p.0.entries ≡ sorted_onto [] (start_names state.old.prefix.now (public_rules_in (rules_in items.now)))) }
+    ensures types { IfOk result
+        (λ p. map typed_row p.1.items ≡ start_types state.old.prefix.now (state_types state.old) (public_rules_in (rules_in items.now))) }
 {
     let starts = starts_among(state.alloc, state.prefix, state.types, items)?;
     lower_starts(state, &starts)?;
@@ -133,10 +134,10 @@ fn starts_among<'g>(
     types: &NumberedTypes,
     items: &'g [GrammarItem],
 ) -> Result<Vec<Start<'g>>, NoMemory>
-    ensures rules { IfOk result (λ ss. map start_rule ss.items ≡ public_rules_in (rules_among (map item_view items.now))) }
-    ensures names { IfOk result (λ ss. map start_named ss.items ≡ start_names prefix.now (public_rules_in (rules_among (map item_view items.now)))) }
+    ensures rules { IfOk result (λ ss. map start_rule ss.items ≡ public_rules_in (rules_in items.now)) }
+    ensures names { IfOk result (λ ss. map start_named ss.items ≡ start_names prefix.now (public_rules_in (rules_in items.now))) }
     ensures types { IfOk result (λ ss. map start_typed ss.items
-        ≡ start_types prefix.now (table_by_number types.now) (public_rules_in (rules_among (map item_view items.now)))) }
+        ≡ start_types prefix.now (table_by_number types.now) (public_rules_in (rules_in items.now))) }
 {
     let public = public_rules(alloc, items)?;
     starts_of(alloc, prefix, types, &public)

@@ -5,7 +5,8 @@ ghost use Rattle.std.specs.Map.{keys_of};
 ghost use Rattle.lalrpop_norm_tree.specs.Items.{conversion_view, item_view};
 ghost use Rattle.lalrpop_norm_tree.specs.LoweredTypes.{named_path};
 ghost use Rattle.lalrpop_norm_tree_parts.specs.Paths.{path_view};
-ghost use Rattle.lalrpop_norm_tree_patterns.specs.Patterns.{pattern_view, patterns_view, pattern_at, pattern_and, no_patterns, number, chosen};
+ghost use Rattle.lalrpop_norm_tree_patterns.specs.Patterns.{pattern_view, patterns_view, pattern_at, pattern_and};
+ghost use Rattle.lalrpop_norm_tree_patterns.specs.Patterns.{no_patterns, number, chosen};
 ghost use Rattle.lalrpop_norm_tree_parts.specs.Reprs.{repr_view, input_str};
 ghost use Rattle.lalrpop_norm_session.specs.Sessions.{features_view};
 ghost use Rattle.lalrpop_norm_repr.specs.Tables.{rows};
@@ -40,7 +41,8 @@ pub(crate) fn tokens_of<L>(
     span: Span,
     items: &[GrammarItem],
 ) -> Result<Tokens, NoMemory>
-    ensures all { IfOk result (λ t. t.all.items ≡ keys_of (flat_map (token_rows (features_view session.now.features) span) (map item_view items.now))) }
+    ensures all { IfOk result
+        (λ t. t.all.items ≡ keys_of (flat_map (token_rows (features_view session.now.features) span) (map item_view items.now))) }
     ensures patterns { IfOk result (λ t. rows (pattern_view repr_view) t.patterns
         ≡ sorted_terminals [] (flat_map (token_rows (features_view session.now.features) span) (map item_view items.now))) }
 {
@@ -61,9 +63,11 @@ fn add_item<L>(
     item: &GrammarItem,
     tokens: &mut Tokens,
 ) -> Result<(), NoMemory>
-    ensures all { OnOk result (tokens.new.all.items ≡ tokens.old.all.items ++ keys_of (token_rows (features_view session.now.features) span (item_view item.now))) }
+    ensures all { OnOk result (tokens.new.all.items
+        ≡ tokens.old.all.items ++ keys_of (token_rows (features_view session.now.features) span (item_view item.now))) }
     ensures patterns { OnOk result (rows (pattern_view repr_view) tokens.new.patterns
-        ≡ sorted_terminals (rows (pattern_view repr_view) tokens.old.patterns) (token_rows (features_view session.now.features) span (item_view item.now))) }
+        ≡ sorted_terminals (rows (pattern_view repr_view) tokens.old.patterns)
+        (token_rows (features_view session.now.features) span (item_view item.now))) }
 {
     match item {
         GrammarItem::ExternToken(token) => match &token.enum_token {
@@ -84,9 +88,11 @@ fn add_conversions<L>(
     conversions: &[Conversion],
     tokens: &mut Tokens,
 ) -> Result<(), NoMemory>
-    ensures all { OnOk result (tokens.new.all.items ≡ tokens.old.all.items ++ keys_of (conversion_rows (features_view session.now.features) (map conversion_view conversions.now))) }
+    ensures all { OnOk result (tokens.new.all.items
+        ≡ tokens.old.all.items ++ keys_of (conversion_rows (features_view session.now.features) (map conversion_view conversions.now))) }
     ensures patterns { OnOk result (rows (pattern_view repr_view) tokens.new.patterns
-        ≡ sorted_terminals (rows (pattern_view repr_view) tokens.old.patterns) (conversion_rows (features_view session.now.features) (map conversion_view conversions.now))) }
+        ≡ sorted_terminals (rows (pattern_view repr_view) tokens.old.patterns)
+        (conversion_rows (features_view session.now.features) (map conversion_view conversions.now))) }
 {
     for conversion in conversions {
         if cfg_active(session, &conversion.attributes) {

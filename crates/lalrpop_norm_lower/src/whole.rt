@@ -98,8 +98,10 @@ fn lower_over<L>(
     requires known { all_known (written.grammar_view grammar).attributes ≡ true }
     requires distinct { IsDistinct (map (λ r. r.name.0) (rules_among (written.grammar_view grammar).items)) }
     requires numbering { IsNumbering (map (λ r. r.name.0) (rules_among (written.grammar_view grammar).items)) names }
-    ensures refuses { Refuses result (made_faults (written.grammar_view grammar).prefix (type_table types) (rules_among (written.grammar_view grammar).items)) }
-    ensures lowered { IfOk result (λ l. IsMade (features_view session.now.features) (written.grammar_view grammar) (type_table types) (lowered.lowered_grammar_view l)) }
+    ensures refuses { Refuses result
+        (made_faults (written.grammar_view grammar).prefix (type_table types) (rules_among (written.grammar_view grammar).items)) }
+    ensures lowered { IfOk result (λ l. IsMade (features_view session.now.features) (written.grammar_view grammar) (type_table types)
+        (lowered.lowered_grammar_view l)) }
 {
     let carried = carried_of(alloc, session, &grammar)?;
     lower_rest(alloc, grammar, types, names, carried)
@@ -115,7 +117,8 @@ fn lower_rest(
 ) -> NormResult<Grammar>
     requires distinct { IsDistinct (map (λ r. r.name.0) (rules_among (written.grammar_view grammar).items)) }
     requires numbering { IsNumbering (map (λ r. r.name.0) (rules_among (written.grammar_view grammar).items)) names }
-    ensures refuses { Refuses result (made_faults (written.grammar_view grammar).prefix (type_table types) (rules_among (written.grammar_view grammar).items)) }
+    ensures refuses { Refuses result
+        (made_faults (written.grammar_view grammar).prefix (type_table types) (rules_among (written.grammar_view grammar).items)) }
     ensures lowered { IfOk result (λ l. (fs : Features) → IsCarriedOver fs (written.grammar_view grammar) carried
         → IsMade fs (written.grammar_view grammar) (type_table types) (lowered.lowered_grammar_view l)) }
 {
@@ -131,7 +134,8 @@ fn lowered_of(
     carried: Carried,
     produced: Produced,
 ) -> Result<Grammar, NoMemory>
-    ensures { IfOk result (λ l. (fs : Features) (g : GrammarData) → IsCarriedOver fs g carried → IsProduced g.prefix (type_table types) (rules_among g.items) produced
+    ensures { IfOk result (λ l. (fs : Features) (g : GrammarData) → IsCarriedOver fs g carried
+        → IsProduced g.prefix (type_table types) (rules_among g.items) produced
         → IsMade fs g (type_table types) (lowered.lowered_grammar_view l)) }
 {
     let tokens = carried.tokens;

@@ -1,5 +1,6 @@
 //! The `<>` of action code: how many there are, and what replaces them.
-ghost use Rattle.std.specs.Prelude.{◌≡◌, ◌+◌, ◌||◌, nat_le, ◌++◌, IfOk, OnOk, codes, is_some, length, map, option_map, string_bytes, flat_map, zip};
+ghost use Rattle.std.specs.Prelude.{◌≡◌, ◌+◌, ◌||◌, nat_le, ◌++◌, IfOk, OnOk, codes, is_some};
+ghost use Rattle.std.specs.Prelude.{length, map, option_map, string_bytes, flat_map, zip};
 ghost use Rattle.lalrpop_norm_tree_names.specs.Texts.{joined};
 ghost use Rattle.lalrpop_norm_session.specs.Braces.{around_slot};
 ghost use Rattle.lalrpop_norm_model.specs.LoweringFaults.{slots};

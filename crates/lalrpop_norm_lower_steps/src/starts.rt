@@ -1,10 +1,9 @@
 //! Start symbols: their alternatives, and their nonterminals.
-ghost use Rattle.std.specs.Prelude.{◌≡◌, ◌∷◌, [], IfOk};
-ghost use Rattle.lalrpop_norm_tree_parts.specs.Attributes.{no_attributes};
+ghost use Rattle.std.specs.Prelude.{◌≡◌, IfOk};
 ghost use Rattle.lalrpop_norm_tree.specs.Items.{alternative_view, rule_view};
 ghost use Rattle.lalrpop_norm_tree.specs.Symbols.{expr_view, symbol_view, nonterminal, at, part_and, no_parts};
 ghost use Rattle.lalrpop_norm_repr.specs.Productions.{nonterminal_data_view, production_view};
-ghost use Rattle.lalrpop_norm_lower_steps.specs.StartSymbols.{start_alternative};
+ghost use Rattle.lalrpop_norm_lower_steps.specs.StartSymbols.{start_alternative, start_entry_with};
 
 use lalrpop_norm_repr::grammar::repr::{self, Production};
 use lalrpop_norm_tree::grammar::parse_tree::{
@@ -50,7 +49,7 @@ pub fn start_data(
     production: Production,
 ) -> Result<repr::NonterminalData, NoMemory>
     ensures { IfOk result (λ n. nonterminal_data_view n
-        ≡ record { visibility = (rule_view rule.now).visibility; span = rule.now.span; attributes = no_attributes; productions = production_view production ∷ [] }) }
+        ≡ start_entry_with (rule_view rule.now) (production_view production)) }
 {
     let span = rule.span;
     let attributes = Vec::new(alloc);

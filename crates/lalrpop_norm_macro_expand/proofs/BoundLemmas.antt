@@ -5,7 +5,7 @@ use Rattle.lalrpop_norm_tree_names.specs.declared.names.NonterminalString.{Nonte
 use Rattle.lalrpop_norm_tree_names.specs.declared.names.Span.{Span}
 use Rattle.lalrpop_norm_tree.specs.declared.symbol.Symbol.{Symbol}
 use Rattle.lalrpop_norm_tree.specs.declared.symbol.RepeatOp.{RepeatOp}
-use Rattle.lalrpop_norm_tree.specs.Symbols.{Kind, Part, Parts, group, ambiguous_id, terminal, nonterminal, call, repeated, chosen, named, tupled, lookahead, lookbehind, error_terminal, at, no_parts, part_and, kind_view, symbol_view, parts_view}
+use Rattle.lalrpop_norm_tree.specs.Symbols.{Kind, Part, Parts, nonterminal, call, repeated, at, no_parts, part_and, kind_view, symbol_view, parts_view}
 use Rattle.lalrpop_norm_tree.specs.Items.{RuleData}
 use Rattle.lalrpop_norm_tree.specs.SymbolTexts.{kind_text}
 use Rattle.lalrpop_norm_tree.proofs.SymbolViews.{seen_at}
@@ -17,7 +17,7 @@ use Rattle.lalrpop_norm_nodes.specs.Filled.{inside_replaced}
 use Rattle.lalrpop_norm_nodes.specs.Given.{IsGiven}
 use Rattle.lalrpop_norm_nodes.specs.NodeParts.{is_call, call_parts, is_repeat, repeated_kind}
 use Rattle.lalrpop_norm_nodes.specs.Wholes.{Whole, one_symbol, kind_at, as_kind}
-use Rattle.lalrpop_norm_nodes.proofs.GivenLemmas.{text_replaced}
+use Rattle.lalrpop_norm_nodes.proofs.TwiceLemmas.{text_replaced}
 use Rattle.lalrpop_norm_nodes.proofs.MeetLemmas.{text_unplaced}
 use Rattle.lalrpop_norm_nodes.proofs.RowItems.{is_kind}
 use Rattle.lalrpop_norm_macro_expand_rules.specs.Pending.{unread_rule}
@@ -34,17 +34,7 @@ pub record IsCall (k : Kind) (ps : Parts) : Type 0 where
 
 pub shallow_call : (k : Kind) (n : List ℕ) (ps : Parts) → unplaced_kind (call n ps) ≡ unplaced_kind (inside_replaced k) → IsCall k ps
 shallow_call (call m qs) n ps e = record { is_so = refl; same = cc e }
-shallow_call (group qs) n ps e = absurd (cc e)
-shallow_call (repeated op q) n ps e = absurd (cc e)
-shallow_call (chosen q) n ps e = absurd (cc e)
-shallow_call (named m q) n ps e = absurd (cc e)
-shallow_call (tupled ns q) n ps e = absurd (cc e)
-shallow_call (ambiguous_id a) n ps e = absurd (cc e)
-shallow_call (terminal t) n ps e = absurd (cc e)
-shallow_call (nonterminal m) n ps e = absurd (cc e)
-shallow_call lookahead n ps e = absurd (cc e)
-shallow_call lookbehind n ps e = absurd (cc e)
-shallow_call error_terminal n ps e = absurd (cc e)
+shallow_call _ n ps e = absurd (cc e)
 
 pub record IsRepeat (k : Kind) (p : Part) : Type 0 where
   pub is_so : is_repeat k ≡ true
@@ -55,17 +45,7 @@ part_kind (at s j) (at t k) e = cc e
 
 pub shallow_repeat : (k : Kind) (op : RepeatOp) (p : Part) → unplaced_kind (repeated op p) ≡ unplaced_kind (inside_replaced k) → IsRepeat k p
 shallow_repeat (repeated o q) op p e = let inner : unplaced p ≡ unplaced (replaced q) = cc e in record { is_so = refl; same = part_kind p q inner }
-shallow_repeat (call m qs) op p e = absurd (cc e)
-shallow_repeat (group qs) op p e = absurd (cc e)
-shallow_repeat (chosen q) op p e = absurd (cc e)
-shallow_repeat (named m q) op p e = absurd (cc e)
-shallow_repeat (tupled ns q) op p e = absurd (cc e)
-shallow_repeat (ambiguous_id a) op p e = absurd (cc e)
-shallow_repeat (terminal t) op p e = absurd (cc e)
-shallow_repeat (nonterminal m) op p e = absurd (cc e)
-shallow_repeat lookahead op p e = absurd (cc e)
-shallow_repeat lookbehind op p e = absurd (cc e)
-shallow_repeat error_terminal op p e = absurd (cc e)
+shallow_repeat _ op p e = absurd (cc e)
 
 pub parts_stay : (n : List ℕ) (ps : Parts) → inside_replaced (call n ps) ≡ call n ps → all_replaced ps ≡ ps
 parts_stay n ps e = cc e

@@ -7,7 +7,7 @@ use Rattle.std.proofs.lemmas.Slice.Eq.{bytes_eq-Decides}
 use Rattle.lalrpop_norm_tree_names.specs.declared.names.Span.{Span}
 use Rattle.lalrpop_norm_tree.specs.declared.symbol.RepeatOp.{RepeatOp}
 use Rattle.lalrpop_norm_tree.specs.declared.symbol.RepeatOp.TheVariants.{Star, Plus, Question, Times}
-use Rattle.lalrpop_norm_tree.specs.Symbols.{Part, Parts, group, ambiguous_id, terminal, nonterminal, call, repeated, chosen, named, tupled, lookahead, lookbehind, error_terminal, at}
+use Rattle.lalrpop_norm_tree.specs.Symbols.{Part, Parts, group, call, repeated, lookahead, lookbehind, at}
 use Rattle.lalrpop_norm_tree.specs.Items.{RuleData, GrammarData}
 use Rattle.lalrpop_norm_tree.specs.SymbolTexts.{part_text, kind_text}
 use Rattle.lalrpop_norm_faults.specs.declared.kind.FaultKind.TheVariants.{SharedName}
@@ -125,13 +125,7 @@ module _ (value : ConditionValue) (ms : List RuleData) where
   is_named (at s (repeated op p)) = named_repeat s op p
   is_named (at s lookahead) = inr refl
   is_named (at s lookbehind) = inr refl
-  is_named (at s (ambiguous_id a)) = inl refl
-  is_named (at s (terminal t)) = inl refl
-  is_named (at s (nonterminal n)) = inl refl
-  is_named (at s (chosen p)) = inl refl
-  is_named (at s (named n p)) = inl refl
-  is_named (at s (tupled ns p)) = inl refl
-  is_named (at s error_terminal) = inl refl
+  is_named (at s _) = inl refl
 
   abbrev NamesAreTexts : List Part → Type 0
   NamesAreTexts xs = IsDistinct (map name_of (flat_map (made_rules value ms) xs))

@@ -3,7 +3,7 @@ use Rattle.std.proofs.Common.{◌≡◌, ℕ, suc, List, [], ◌∷◌, ◌++◌
 use Rattle.std.specs.Prelude.{⊤}
 use Rattle.std.proofs.lemmas.List.{map-append}
 use Rattle.lalrpop_norm_tree_names.specs.declared.names.NonterminalString.{NonterminalString}
-use Rattle.lalrpop_norm_tree.specs.Symbols.{Kind, Part, Parts, group, ambiguous_id, terminal, nonterminal, call, repeated, chosen, named, tupled, lookahead, lookbehind, error_terminal, at}
+use Rattle.lalrpop_norm_tree.specs.Symbols.{Kind, Part, Parts, call, at}
 use Rattle.lalrpop_norm_tree.specs.Items.{AlternativeData, RuleData, GrammarData}
 use Rattle.lalrpop_norm_conditions.specs.Conditions.{comparison}
 use Rattle.lalrpop_norm_model.specs.MadeRules.{macro_named}
@@ -36,18 +36,8 @@ call_replaced None ps = refl
 call_replaced (Some d) ps = places_replaced d.args ps 0 d.alternatives
 
 pub kept_replaced : (macros : List RuleData) (p : Part) → kept_by comparison macros (parts_replaced p) ≡ kept_by comparison macros p
-kept_replaced macros (at s (group ps)) = refl
 kept_replaced macros (at s (call n ps)) = call_replaced (macro_named macros n) ps
-kept_replaced macros (at s (repeated op p)) = refl
-kept_replaced macros (at s lookahead) = refl
-kept_replaced macros (at s lookbehind) = refl
-kept_replaced macros (at s (ambiguous_id a)) = refl
-kept_replaced macros (at s (terminal t)) = refl
-kept_replaced macros (at s (nonterminal n)) = refl
-kept_replaced macros (at s (chosen p)) = refl
-kept_replaced macros (at s (named n p)) = refl
-kept_replaced macros (at s (tupled ns p)) = refl
-kept_replaced macros (at s error_terminal) = refl
+kept_replaced macros (at s _) = refl
 
 -- ---- ids that stand for symbols
 

@@ -12,7 +12,7 @@ use Rattle.lalrpop_norm_tree_names.specs.declared.names.TerminalLiteral.TheVaria
 use Rattle.lalrpop_norm_tree.specs.declared.symbol.RepeatOp.{RepeatOp}
 use Rattle.lalrpop_norm_tree.specs.declared.symbol.RepeatOp.TheVariants.{Star, Plus, Question, Times}
 use Rattle.lalrpop_norm_tree.specs.declared.items.Condition.{Condition}
-use Rattle.lalrpop_norm_tree.specs.Symbols.{Kind, Part, Parts, group, ambiguous_id, terminal, nonterminal, call, repeated, chosen, named, tupled, lookahead, lookbehind, error_terminal, at, no_parts, part_and}
+use Rattle.lalrpop_norm_tree.specs.Symbols.{Kind, Part, Parts, group, call, repeated, lookahead, lookbehind, at, no_parts, part_and}
 use Rattle.lalrpop_norm_tree.specs.Items.{AlternativeData, RuleData, ItemData, rule_item, lookahead_code, lookbehind_code}
 use Rattle.lalrpop_norm_tree.specs.SymbolTexts.{kind_text}
 use Rattle.lalrpop_norm_faults.specs.declared.kind.FaultKind.TheVariants.{NamedInGroup, NamedInTimes}
@@ -86,15 +86,7 @@ one_read : (macros : List RuleData) (p : Part) → map pending_read (pending_by 
 one_read macros (at s (group ps)) = ap (λ r. rule_item r ∷ []) (sym (group_replaced s ps))
 one_read macros (at s (call n ps)) = call_read_so s n ps (macro_named macros n) (λ d e. named_so macros n d e)
 one_read macros (at s (repeated op (at sp k))) = ap (λ (i : ItemData). i ∷ []) (repeat_read_so s op sp k (unplaced_kind k))
-one_read macros (at s lookahead) = refl
-one_read macros (at s lookbehind) = refl
-one_read macros (at s (ambiguous_id a)) = refl
-one_read macros (at s (terminal t)) = refl
-one_read macros (at s (nonterminal n)) = refl
-one_read macros (at s (chosen p)) = refl
-one_read macros (at s (named n p)) = refl
-one_read macros (at s (tupled ns p)) = refl
-one_read macros (at s error_terminal) = refl
+one_read macros (at s _) = refl
 
 pub pending_are_read : (macros : List RuleData) (ps : List Part) →
     map pending_read (flat_map (pending_by macros) ps) ≡ replaced_rules (flat_map (made_rules comparison macros) ps)
@@ -136,13 +128,7 @@ module _ (names : List ℕ → Bool) (start : List Part) where
   part_reads macros (at s (repeated op (at sp k))) h = repeat_met s op sp k (kind_text (repeated op (at sp (replaced_kind k)))) h
   part_reads macros (at s lookahead) h = one_alike (finished_rule (location_rule s lookahead lookahead_code)) (location_rule s lookahead lookahead_code) (location_alike names start s lookahead lookahead_code)
   part_reads macros (at s lookbehind) h = one_alike (finished_rule (location_rule s lookbehind lookbehind_code)) (location_rule s lookbehind lookbehind_code) (location_alike names start s lookbehind lookbehind_code)
-  part_reads macros (at s (ambiguous_id a)) h = alike_none names start
-  part_reads macros (at s (terminal t)) h = alike_none names start
-  part_reads macros (at s (nonterminal n)) h = alike_none names start
-  part_reads macros (at s (chosen p)) h = alike_none names start
-  part_reads macros (at s (named n p)) h = alike_none names start
-  part_reads macros (at s (tupled ns p)) h = alike_none names start
-  part_reads macros (at s error_terminal) h = alike_none names start
+  part_reads macros (at s _) h = alike_none names start
 
   pub rules_read : (macros : List RuleData) (ps : List Part) → ((p : Part) → In p ps → were_met names start (inside p) ≡ true) →
       MeetAlike names start (flat_map shown_in_pending (flat_map (pending_by macros) ps)) (flat_map met_in_pending (flat_map (pending_by macros) ps))
@@ -158,17 +144,7 @@ module _ (names : List ℕ → Bool) (start : List Part) where
 
 name_replaced : (p : Part) → names_value (replaced p) ≡ names_value p
 name_replaced (at s (group ps)) = refl
-name_replaced (at s (call n ps)) = refl
-name_replaced (at s (repeated op p)) = refl
-name_replaced (at s lookahead) = refl
-name_replaced (at s lookbehind) = refl
-name_replaced (at s (ambiguous_id a)) = refl
-name_replaced (at s (terminal t)) = refl
-name_replaced (at s (nonterminal n)) = refl
-name_replaced (at s (chosen p)) = refl
-name_replaced (at s (named n p)) = refl
-name_replaced (at s (tupled ns p)) = refl
-name_replaced (at s error_terminal) = refl
+name_replaced (at s _) = refl
 
 some_replaced : (ps : Parts) → some_name_value (all_replaced ps) ≡ some_name_value ps
 some_replaced no_parts = refl
@@ -176,18 +152,8 @@ some_replaced (part_and p ps) = ap₂ ◌||◌ (name_replaced p) (some_replaced 
 
 quoted_replaced : (o : Option Kind) → quoted_text (option_map replaced_kind o) ≡ quoted_text o
 quoted_replaced None = refl
-quoted_replaced (Some (terminal t)) = refl
-quoted_replaced (Some (group ps)) = refl
-quoted_replaced (Some (ambiguous_id a)) = refl
-quoted_replaced (Some (nonterminal n)) = refl
 quoted_replaced (Some (call n ps)) = refl
-quoted_replaced (Some (repeated op p)) = refl
-quoted_replaced (Some (chosen p)) = refl
-quoted_replaced (Some (named n p)) = refl
-quoted_replaced (Some (tupled ns p)) = refl
-quoted_replaced (Some lookahead) = refl
-quoted_replaced (Some lookbehind) = refl
-quoted_replaced (Some error_terminal) = refl
+quoted_replaced (Some _) = refl
 
 value_replaced : (params : List NonterminalString) (ps : Parts) (o : Option Condition) →
     value_faults (argument_kind params (all_replaced ps)) o ≡ value_faults (argument_kind params ps) o
@@ -215,15 +181,7 @@ unmade_replaced : (macros : List RuleData) (p : Part) → unmade macros (parts_r
 unmade_replaced macros (at s (group ps)) = ap (λ b. fault_if b (NamedInGroup, s)) (some_replaced ps)
 unmade_replaced macros (at s (call n ps)) = called_replaced (macro_named macros n) ps
 unmade_replaced macros (at s (repeated op p)) = repeat_unmade s op p
-unmade_replaced macros (at s lookahead) = refl
-unmade_replaced macros (at s lookbehind) = refl
-unmade_replaced macros (at s (ambiguous_id a)) = refl
-unmade_replaced macros (at s (terminal t)) = refl
-unmade_replaced macros (at s (nonterminal n)) = refl
-unmade_replaced macros (at s (chosen p)) = refl
-unmade_replaced macros (at s (named n p)) = refl
-unmade_replaced macros (at s (tupled ns p)) = refl
-unmade_replaced macros (at s error_terminal) = refl
+unmade_replaced macros (at s _) = refl
 
 pub all_unmade : (macros : List RuleData) (ps : List Part) → flat_map (unmade macros) (map parts_replaced ps) ≡ flat_map (unmade macros) ps
 all_unmade macros [] = refl

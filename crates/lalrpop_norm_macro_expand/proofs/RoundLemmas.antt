@@ -28,7 +28,8 @@ use Rattle.lalrpop_norm_nodes.specs.NodeParts.{AreWaiting}
 use Rattle.lalrpop_norm_nodes.specs.Wholes.{wholes}
 use Rattle.lalrpop_norm_nodes.specs.Tables.{wholes_in, own_in, seen_in, waiting_in, is_declared_in, AreNumbered, IsNodeTable, TableMeets, refused_in}
 use Rattle.lalrpop_norm_nodes.specs.Waits.{parts_replaced, first_met, LeavesWaiting}
-use Rattle.lalrpop_norm_nodes.proofs.MeetLemmas.{split_at, were_left}
+use Rattle.lalrpop_norm_nodes.proofs.MeetLemmas.{were_left}
+use Rattle.lalrpop_norm_nodes.proofs.SymbolLemmas.{split_at}
 use Rattle.lalrpop_norm_nodes.proofs.ShallowMeetings.{MeetAlike, alike_none, alike_one, alike_both}
 use Rattle.lalrpop_norm_nodes.proofs.ShallowRounds.{round_refused, round_seen, round_waits, IsInward, inward_each, rule_inward, first_of_text}
 use Rattle.lalrpop_norm_nodes.proofs.WaitStands.{with_number, with_whole, waiting_are}

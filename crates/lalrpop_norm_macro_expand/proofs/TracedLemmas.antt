@@ -5,7 +5,7 @@ use Rattle.std.specs.List.{flat_map}
 use Rattle.std.proofs.lemmas.Option.{slice_get-map}
 use Rattle.lalrpop_norm_tree_names.specs.declared.names.NonterminalString.{NonterminalString}
 use Rattle.lalrpop_norm_tree.specs.Accessors.{or_else}
-use Rattle.lalrpop_norm_tree.specs.Symbols.{Kind, Part, Parts, group, ambiguous_id, terminal, nonterminal, call, repeated, chosen, named, tupled, lookahead, lookbehind, error_terminal, at}
+use Rattle.lalrpop_norm_tree.specs.Symbols.{Kind, Part, Parts, call, at}
 use Rattle.lalrpop_norm_tree.specs.Items.{AlternativeData, RuleData, GrammarData}
 use Rattle.lalrpop_norm_theory.specs.Symbols.{Name}
 use Rattle.lalrpop_norm_theory.specs.LoweredTrees as theory
@@ -157,20 +157,10 @@ module _ (macros : List RuleData) (found : Name → Option TracedRule) (agree : 
   called_made ps (Some t) = ap (λ (os : List theory.Origin). os ∷ []) (places_kept comparison t.0.args ps t.0.alternatives t.1)
 
   kinds_made : (p : Part) → kind_lists f (kept_by comparison macros p) (unplaced_kind (kind_of p)) ≡ made_origins comparison found p
-  kinds_made (at s (group ps)) = refl
   kinds_made (at s (call n ps)) =
       ap₂ (λ (o : Option (List theory.Origin)) (d : Option RuleData). called_lists o (kept_by_call comparison d ps)) (lists n) (sym (agree n))
       ∙ called_made ps (found n)
-  kinds_made (at s (repeated op p)) = refl
-  kinds_made (at s lookahead) = refl
-  kinds_made (at s lookbehind) = refl
-  kinds_made (at s (ambiguous_id a)) = refl
-  kinds_made (at s (terminal t)) = refl
-  kinds_made (at s (nonterminal n)) = refl
-  kinds_made (at s (chosen p)) = refl
-  kinds_made (at s (named n p)) = refl
-  kinds_made (at s (tupled ns p)) = refl
-  kinds_made (at s error_terminal) = refl
+  kinds_made (at s _) = refl
 
   -- symbol by symbol
   each_made : (ws : List Whole) (ms : List MadeSymbol) (ps : List Part) → map (λ m. part_at ws m.number) ms ≡ map unplaced ps →

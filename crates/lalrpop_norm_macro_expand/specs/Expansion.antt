@@ -4,8 +4,8 @@ use Rattle.std.specs.List.{list_any}
 use Rattle.lalrpop_norm_tree.specs.declared.symbol.RepeatOp.{RepeatOp}
 use Rattle.lalrpop_norm_tree.specs.declared.symbol.RepeatOp.TheVariants.{Star, Plus, Question, Times}
 use Rattle.lalrpop_norm_tree_names.specs.declared.names.Span.{Span}
-use Rattle.lalrpop_norm_tree.specs.Symbols.{Part, group, ambiguous_id, terminal, nonterminal, call, repeated, chosen, named}
-use Rattle.lalrpop_norm_tree.specs.Symbols.{tupled, lookahead, lookbehind, error_terminal, at}
+use Rattle.lalrpop_norm_tree.specs.Symbols.{Part, group, call, repeated}
+use Rattle.lalrpop_norm_tree.specs.Symbols.{at}
 use Rattle.lalrpop_norm_tree.specs.SymbolTexts.{part_text}
 use Rattle.lalrpop_norm_tree.specs.Items.{RuleData, GrammarData}
 use Rattle.lalrpop_norm_faults.specs.declared.kind.FaultKind.TheVariants.{NamedInGroup, NamedInTimes, RecursionCap, SharedName}
@@ -63,15 +63,7 @@ abbrev pub unmade : List RuleData → Part → List Fault
 unmade macros (at s (group ps)) = fault_if (some_name_value ps) (NamedInGroup, s)
 unmade macros (at s (call n ps)) = called_faults (macro_named macros n) ps
 unmade macros (at s (repeated op p)) = unmade_repeat s op p
-unmade macros (at s (ambiguous_id a)) = []
-unmade macros (at s (terminal t)) = []
-unmade macros (at s (nonterminal n)) = []
-unmade macros (at s (chosen p)) = []
-unmade macros (at s (named n p)) = []
-unmade macros (at s (tupled ns p)) = []
-unmade macros (at s lookahead) = []
-unmade macros (at s lookbehind) = []
-unmade macros (at s error_terminal) = []
+unmade macros (at s _) = []
 
 -- of the new symbols of round k + 1, the one reached last first
 abbrev pub unmade_in : ConditionValue → GrammarData → ℕ → List Fault

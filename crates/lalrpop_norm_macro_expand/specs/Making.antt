@@ -1,12 +1,13 @@
 -- What the code generates for the symbols on the worklist: internal definitions, which no public contract clause mentions.
-use Rattle.std.specs.Prelude.{ℕ, List, [], ◌∷◌, flat_map, option_map, Option, Some, None, if◌then◌else◌}
+use Rattle.std.specs.Prelude.{ℕ, List, [], ◌∷◌, map, flat_map, reverse, option_map, option_to_list, Option, Some, None, if◌then◌else◌}
 use Rattle.lalrpop_norm_tree_names.specs.declared.names.NonterminalString.{NonterminalString}
 use Rattle.lalrpop_norm_tree_names.specs.declared.names.Span.{Span}
 use Rattle.lalrpop_norm_tree.specs.declared.symbol.RepeatOp.{RepeatOp}
-use Rattle.lalrpop_norm_tree.specs.Symbols.{Kind, Part, Parts, at, group, ambiguous_id, terminal, nonterminal, call, repeated, chosen}
-use Rattle.lalrpop_norm_tree.specs.Symbols.{named, tupled, lookahead, lookbehind, error_terminal, symbol_view}
+use Rattle.lalrpop_norm_tree.specs.Symbols.{Kind, Part, Parts, at, group, nonterminal, call, repeated}
+use Rattle.lalrpop_norm_tree.specs.Symbols.{lookahead, lookbehind, symbol_view, parts_view}
 use Rattle.lalrpop_norm_tree.specs.SymbolTexts.{kind_text}
 use Rattle.lalrpop_norm_tree.specs.Items.{AlternativeData, RuleData, lookahead_code, lookbehind_code}
+use Rattle.lalrpop_norm_faults.specs.Faults.{Fault}
 use Rattle.lalrpop_norm_conditions.specs.Conditions.{comparison}
 use Rattle.lalrpop_norm_model.specs.Grammars.{is_true}
 use Rattle.lalrpop_norm_model.specs.MadeRules.{flat_reader, argument_kind, only_part, macro_named, type_substituted}
@@ -16,8 +17,12 @@ use Rattle.lalrpop_norm_nodes.specs.Apart.{nowhere}
 use Rattle.lalrpop_norm_nodes.specs.declared.table.Waiting.{Waiting}
 use Rattle.lalrpop_norm_nodes.specs.NodeParts.{call_parts, repeated_kind}
 use Rattle.lalrpop_norm_nodes.specs.Wholes.{Whole, kind_at}
-use Rattle.lalrpop_norm_macro_expand_rules.specs.Pending.{PendingData, finished_rule, unread_rule}
+use Rattle.lalrpop_norm_macro_expand_rules.specs.declared.pending.Pending.{Pending}
+use Rattle.lalrpop_norm_macro_expand_rules.specs.declared.substituted.Bindings.{Bindings}
+use Rattle.lalrpop_norm_macro_expand_rules.specs.Pending.{PendingData, finished_rule, unread_rule, pending_view}
 use Rattle.lalrpop_norm_macro_expand_repeats.specs.Repeats.{hole_name, repeat_shape}
+use Rattle.lalrpop_norm_macro_expand.specs.Expansion.{unmade}
+use Rattle.lalrpop_norm_macro_expand.specs.Made.{made_for}
 
 -- ---- macro calls
 
@@ -29,6 +34,10 @@ copied_alternative s a = instance_alternative s (λ n. None) a
 abbrev pub kept_of : Span → List NonterminalString → Parts → AlternativeData → List AlternativeData
 kept_of s params args a =
     if is_true comparison params (read_all flat_reader args) a.condition then copied_alternative s a ∷ [] else []
+
+-- the same in an environment that binds the macro's names
+abbrev pub kept_in : Bindings → Span → AlternativeData → List AlternativeData
+kept_in b s = kept_of s b.names.now (parts_view b.symbols.now)
 
 -- the rule of a call of that name with these arguments, before its alternatives are read
 abbrev pub instance_shape : List ℕ → Span → RuleData → Parts → RuleData
@@ -69,13 +78,22 @@ pending_of macros whole (at s (call n ps)) = call_pending (kind_text (call n ps)
 pending_of macros whole (at s (repeated op p)) = repeat_pending (kind_text (repeated op p)) s op (repeated_kind whole) p ∷ []
 pending_of macros whole (at s lookahead) = finished_rule (location_rule s lookahead lookahead_code) ∷ []
 pending_of macros whole (at s lookbehind) = finished_rule (location_rule s lookbehind lookbehind_code) ∷ []
-pending_of macros whole (at s (ambiguous_id a)) = []
-pending_of macros whole (at s (terminal t)) = []
-pending_of macros whole (at s (nonterminal n)) = []
-pending_of macros whole (at s (chosen p)) = []
-pending_of macros whole (at s (named n p)) = []
-pending_of macros whole (at s (tupled ns p)) = []
-pending_of macros whole (at s error_terminal) = []
+pending_of macros whole (at s _) = []
 
 abbrev pub pending_for : List Whole → List RuleData → Waiting → List PendingData
 pending_for ws macros w = pending_of macros (kind_at ws w.number) (symbol_view w.symbol)
+
+-- a rule, if there is one
+abbrev pub pending_list : List Whole → Option Pending → List PendingData
+pending_list ws p = option_to_list (option_map (pending_view ws) p)
+
+-- ---- all symbols on the worklist: the rule of the one reached last is generated first
+
+abbrev pub round_pending : List Whole → List RuleData → List Waiting → List PendingData
+round_pending ws macros waiting = flat_map (pending_for ws macros) (reverse waiting)
+
+abbrev pub round_unmade : List RuleData → List Waiting → List Fault
+round_unmade macros waiting = flat_map (λ w. unmade macros (symbol_view w.symbol)) (reverse waiting)
+
+abbrev pub round_made : List RuleData → List Waiting → List (ℕ × List ℕ)
+round_made macros waiting = map (made_for macros) (reverse waiting)

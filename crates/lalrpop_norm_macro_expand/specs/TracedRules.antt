@@ -10,8 +10,8 @@ use Rattle.lalrpop_norm_theory.specs.Symbols.{Name}
 use Rattle.lalrpop_norm_theory.specs.LoweredTrees as theory
 use Rattle.lalrpop_norm_theory.specs.LoweredTrees.{from_group, from_lookahead, from_lookbehind}
 use Rattle.lalrpop_norm_tree.specs.declared.symbol.RepeatOp.TheVariants.{Star, Plus, Question, Times}
-use Rattle.lalrpop_norm_tree.specs.Symbols.{Kind, group, ambiguous_id, terminal, nonterminal, call, repeated, chosen, named, tupled}
-use Rattle.lalrpop_norm_tree.specs.Symbols.{lookahead, lookbehind, error_terminal}
+use Rattle.lalrpop_norm_tree.specs.Symbols.{Kind, group, call, repeated}
+use Rattle.lalrpop_norm_tree.specs.Symbols.{lookahead, lookbehind}
 use Rattle.lalrpop_norm_model.specs.Grammars.{is_nil}
 use Rattle.lalrpop_norm_nodes.specs.declared.node.Node.{Node}
 use Rattle.lalrpop_norm_nodes.specs.declared.node.Node.TheVariants as node
@@ -72,13 +72,7 @@ kind_lists named_list kept (call n ps) = called_lists (named_list n) kept
 kind_lists named_list kept (repeated op p) = repeat_origins op ∷ []
 kind_lists named_list kept lookahead = (from_lookahead ∷ []) ∷ []
 kind_lists named_list kept lookbehind = (from_lookbehind ∷ []) ∷ []
-kind_lists named_list kept (ambiguous_id a) = []
-kind_lists named_list kept (terminal t) = []
-kind_lists named_list kept (nonterminal n) = []
-kind_lists named_list kept (chosen p) = []
-kind_lists named_list kept (named n p) = []
-kind_lists named_list kept (tupled ns p) = []
-kind_lists named_list kept error_terminal = []
+kind_lists named_list kept _ = []
 
 -- that of a symbol by its node
 abbrev pub unary_lists : Unary → List (List theory.Origin)

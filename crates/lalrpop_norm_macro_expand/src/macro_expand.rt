@@ -3,7 +3,7 @@
 //! Round 1 reads the rules of the grammar, each later one the rules that the round before generated. To read a rule is to reach
 //! the symbols in it, inner ones before outer ones, and to rewrite each that is desugared to the nonterminal of its text. Symbols
 //! that are equal up to spans are desugared to one rule, where they were first reached.
-ghost use Rattle.std.specs.Prelude.{◌≡◌, ◌==◌, ◌<◌, ◌+◌, ◌++◌, [], true, false, if◌then◌else◌, IfOk, OnOk, map, length, reverse, flat_map};
+ghost use Rattle.std.specs.Prelude.{◌≡◌, ◌==◌, ◌<◌, ◌+◌, ◌++◌, [], true, false, if◌then◌else◌, IfOk, OnOk, map, length, flat_map};
 ghost use Rattle.lalrpop_norm_tree.specs.Symbols.{symbol_view};
 ghost use Rattle.lalrpop_norm_tree.specs.Items.{item_view, grammar_view};
 ghost use Rattle.lalrpop_norm_faults.specs.Faults.{Refuses, IsFirst};
@@ -17,9 +17,9 @@ ghost use Rattle.lalrpop_norm_nodes.specs.Waits.{LeavesWaiting};
 ghost use Rattle.lalrpop_norm_macro_expand_rules.specs.Macros.{macros_in, AreByName};
 ghost use Rattle.lalrpop_norm_macro_expand_rules.specs.Pending.{met_in_pending, shown_in_pending, pending_read};
 ghost use Rattle.lalrpop_norm_macro_expand.specs.Counts.{AreCounts, IsLastRound};
-ghost use Rattle.lalrpop_norm_macro_expand.specs.Expansion.{unmade, past_cap, expansion_faults, macro_faults};
-ghost use Rattle.lalrpop_norm_macro_expand.specs.Made.{made_view, made_for, AreMade};
-ghost use Rattle.lalrpop_norm_macro_expand.specs.Making.{hole, pending_for};
+ghost use Rattle.lalrpop_norm_macro_expand.specs.Expansion.{past_cap, expansion_faults, macro_faults};
+ghost use Rattle.lalrpop_norm_macro_expand.specs.Made.{made_view, AreMade};
+ghost use Rattle.lalrpop_norm_macro_expand.specs.Making.{hole, round_pending, round_unmade, round_made};
 
 mod instance;
 mod made_origins;
@@ -117,14 +117,18 @@ fn read_round(
     requires table { IsNodeTable table.old }
     requires counted { IsCounted table.old }
     requires waiting { AreWaiting (wholes_in table.old) waiting.items }
-    ensures refuses { Refuses result (flat_map (λ w. unmade (macros_in makers.now.macros) (symbol_view w.symbol)) (reverse waiting.items)
-        ++ refused_in table.old (flat_map met_in_pending (flat_map (pending_for (wholes_in table.old) (macros_in makers.now.macros)) (reverse waiting.items)))) }
-    ensures meets { OnOk result (TableMeets table.old table.new (flat_map met_in_pending (flat_map (pending_for (wholes_in table.old) (macros_in makers.now.macros)) (reverse waiting.items)))) }
+    ensures refuses { Refuses result (round_unmade (macros_in makers.now.macros) waiting.items
+        ++ refused_in table.old
+        (flat_map met_in_pending (round_pending (wholes_in table.old) (macros_in makers.now.macros) waiting.items))) }
+    ensures meets { OnOk result (TableMeets table.old table.new
+        (flat_map met_in_pending (round_pending (wholes_in table.old) (macros_in makers.now.macros) waiting.items))) }
     ensures counted { OnOk result (IsCounted table.new) }
-    ensures waits { OnOk result (LeavesWaiting table.old table.new (flat_map shown_in_pending (flat_map (pending_for (wholes_in table.old) (macros_in makers.now.macros)) (reverse waiting.items)))) }
+    ensures waits { OnOk result (LeavesWaiting table.old table.new
+        (flat_map shown_in_pending (round_pending (wholes_in table.old) (macros_in makers.now.macros) waiting.items))) }
     ensures value { OnOk result (map item_view done.new.items ≡ map item_view done.old.items
-        ++ map pending_read (flat_map (pending_for (wholes_in table.old) (macros_in makers.now.macros)) (reverse waiting.items))) }
-    ensures made { OnOk result (map made_view made.new.items ≡ map made_view made.old.items ++ map (made_for (macros_in makers.now.macros)) (reverse waiting.items)) }
+        ++ map pending_read (round_pending (wholes_in table.old) (macros_in makers.now.macros) waiting.items)) }
+    ensures made { OnOk result (map made_view made.new.items
+        ≡ map made_view made.old.items ++ round_made (macros_in makers.now.macros) waiting.items) }
 {
     let first = done.len();
     make_room(done, waiting.len())?;

@@ -1,10 +1,10 @@
 //! The rules of repeats, in which a name stands for what is repeated.
-ghost use Rattle.std.specs.Prelude.{◌≡◌, ◌++◌, ◌∷◌, [], IfOk, OnOk, Some, codes, map};
+ghost use Rattle.std.specs.Prelude.{◌≡◌, ◌++◌, ◌∷◌, [], IfOk, OnOk, codes, map};
 ghost use Rattle.lalrpop_norm_tree_parts.specs.Paths.{path_view};
 ghost use Rattle.lalrpop_norm_tree.specs.Symbols.{part_and, at, nonterminal, repeated, symbol_view, parts_view};
 ghost use Rattle.lalrpop_norm_tree.specs.Types.{type_view};
 ghost use Rattle.lalrpop_norm_tree.specs.Items.{alternative_view, rule_view};
-ghost use Rattle.lalrpop_norm_model.specs.MadeRules.{only_part, so_many, with_name, holding, star_rule, plus_rule, question_rule, times_rule};
+ghost use Rattle.lalrpop_norm_model.specs.MadeRules.{only_part, so_many, with_name, holding, star_rule, plus_rule, question_rule};
 ghost use Rattle.lalrpop_norm_model.specs.Replaced.{replaced};
 ghost use Rattle.lalrpop_norm_macro_expand_repeats.specs.Repeats.{hole_name, repeat_shape};
 
@@ -78,7 +78,8 @@ fn star_rule(
     over: &Symbol,
 ) -> Result<NonterminalData, NoMemory>
     requires { replaced (symbol_view inner.now) ≡ symbol_view inner.now }
-    ensures { IfOk result (λ r. rule_view r ≡ repeat_shape head.name head.span RepeatOp.Star (symbol_view inner.now) (symbol_view over.now)) }
+    ensures { IfOk result (λ r. rule_view r
+        ≡ repeat_shape head.name head.span RepeatOp.Star (symbol_view inner.now) (symbol_view over.now)) }
 {
     let of_vector = holding(alloc, Path::vec(alloc)?, inner)?;
     let alternatives = star_alternatives(alloc, head.span, over)?;
@@ -124,7 +125,8 @@ fn plus_rule(
     over: &Symbol,
 ) -> Result<NonterminalData, NoMemory>
     requires { replaced (symbol_view inner.now) ≡ symbol_view inner.now }
-    ensures { IfOk result (λ r. rule_view r ≡ repeat_shape head.name head.span RepeatOp.Plus (symbol_view inner.now) (symbol_view over.now)) }
+    ensures { IfOk result (λ r. rule_view r
+        ≡ repeat_shape head.name head.span RepeatOp.Plus (symbol_view inner.now) (symbol_view over.now)) }
 {
     let of_vector = holding(alloc, Path::vec(alloc)?, inner)?;
     let alternatives = plus_alternatives(alloc, head.span, over)?;
@@ -153,7 +155,8 @@ fn question_rule(
     over: &Symbol,
 ) -> Result<NonterminalData, NoMemory>
     requires { replaced (symbol_view inner.now) ≡ symbol_view inner.now }
-    ensures { IfOk result (λ r. rule_view r ≡ repeat_shape head.name head.span RepeatOp.Question (symbol_view inner.now) (symbol_view over.now)) }
+    ensures { IfOk result (λ r. rule_view r
+        ≡ repeat_shape head.name head.span RepeatOp.Question (symbol_view inner.now) (symbol_view over.now)) }
 {
     let of_option = holding(alloc, Path::option(alloc)?, inner)?;
     let alternatives = question_alternatives(alloc, head.span, over)?;
@@ -190,7 +193,8 @@ fn times_rule(
     over: &Symbol,
 ) -> Result<NonterminalData, NoMemory>
     requires { replaced (symbol_view inner.now) ≡ symbol_view inner.now }
-    ensures { IfOk result (λ r. rule_view r ≡ repeat_shape head.name head.span (RepeatOp.Times count) (symbol_view inner.now) (symbol_view over.now)) }
+    ensures { IfOk result (λ r. rule_view r
+        ≡ repeat_shape head.name head.span (RepeatOp.Times count) (symbol_view inner.now) (symbol_view over.now)) }
 {
     let of_vector = holding(alloc, Path::vec(alloc)?, inner)?;
     let symbols = so_many(alloc, count, over)?;
@@ -209,7 +213,8 @@ pub fn repeat_rule(
     inner: &Symbol,
 ) -> Result<NonterminalData, NoMemory>
     requires { replaced (symbol_view inner.now) ≡ symbol_view inner.now }
-    ensures { IfOk result (λ r. rule_view r ≡ repeat_shape head.name head.span op (symbol_view inner.now) (at inner.now.span (nonterminal hole_name))) }
+    ensures { IfOk result (λ r. rule_view r
+        ≡ repeat_shape head.name head.span op (symbol_view inner.now) (at inner.now.span (nonterminal hole_name))) }
 {
     let over = hole_at(alloc, inner.span)?;
     match op {

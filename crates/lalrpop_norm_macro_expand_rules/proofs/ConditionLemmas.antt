@@ -4,7 +4,7 @@ use Rattle.lalrpop_norm_tree_names.specs.declared.names.NonterminalString.{Nonte
 use Rattle.lalrpop_norm_tree_names.specs.declared.names.TerminalString.TheVariants.{Literal, Bare, Error}
 use Rattle.lalrpop_norm_tree_names.specs.declared.names.TerminalLiteral.TheVariants.{Quoted, Regex}
 use Rattle.lalrpop_norm_tree.specs.declared.items.Condition.{Condition}
-use Rattle.lalrpop_norm_tree.specs.Symbols.{Kind, group, ambiguous_id, terminal, nonterminal, call, repeated, chosen, named, tupled, lookahead, lookbehind, error_terminal, at, Parts, no_parts, part_and}
+use Rattle.lalrpop_norm_tree.specs.Symbols.{Kind, terminal, at, Parts, no_parts, part_and}
 use Rattle.lalrpop_norm_conditions.specs.Conditions.{comparison}
 use Rattle.lalrpop_norm_model.specs.Grammars.{bound_argument, is_true, value_of}
 use Rattle.lalrpop_norm_model.specs.Reading.{read_kind, read_part, read_parts, read_all}
@@ -32,19 +32,7 @@ said_of : (c : Condition) (o : Option Kind) (text : List ℕ) → quoted_text o 
 said_of c None text e = absurd (cc e)
 said_of c (Some (terminal (Literal (Quoted t)))) text e = let same : t ≡ text = cc in ap (λ u. comparison c.op u c.rhs) same
 said_of c (Some (terminal (Literal (Regex t)))) text e = absurd (cc e)
-said_of c (Some (terminal (Bare t))) text e = absurd (cc e)
-said_of c (Some (terminal Error)) text e = absurd (cc e)
-said_of c (Some (group ps)) text e = absurd (cc e)
-said_of c (Some (ambiguous_id a)) text e = absurd (cc e)
-said_of c (Some (nonterminal n)) text e = absurd (cc e)
-said_of c (Some (call n ps)) text e = absurd (cc e)
-said_of c (Some (repeated op p)) text e = absurd (cc e)
-said_of c (Some (chosen p)) text e = absurd (cc e)
-said_of c (Some (named n p)) text e = absurd (cc e)
-said_of c (Some (tupled ns p)) text e = absurd (cc e)
-said_of c (Some lookahead) text e = absurd (cc e)
-said_of c (Some lookbehind) text e = absurd (cc e)
-said_of c (Some error_terminal) text e = absurd (cc e)
+said_of c (Some _) text e = absurd (cc e)
 
 pub condition_said : (params : List NonterminalString) (args : Parts) (c : Condition) (text : List ℕ) →
     quoted_text (argument_kind params args c.lhs.0) ≡ Some text →

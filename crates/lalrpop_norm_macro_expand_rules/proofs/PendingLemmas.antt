@@ -8,7 +8,7 @@ use Rattle.lalrpop_norm_tree.specs.Items.{item_view}
 use Rattle.lalrpop_norm_nodes.specs.Wholes.{Whole, Grows}
 use Rattle.lalrpop_norm_nodes.proofs.GivenLemmas.{given_stays, whole_stays}
 use Rattle.lalrpop_norm_macro_expand_rules.specs.declared.pending.Filling.{Filling}
-use Rattle.lalrpop_norm_macro_expand_rules.specs.Pending.{PendingData, given_numbered, shown_numbered, filling_view, filled_item, filled_items, IsReadable}
+use Rattle.lalrpop_norm_macro_expand_rules.specs.Pending.{PendingData, given_numbered, shown_numbered, filling_view, filled_item, pending_in, IsReadable}
 
 pub readable_stays : (ws vs : List Whole) (f : Option Filling) → Grows ws vs → IsReadable ws f → IsReadable vs f
 readable_stays ws vs None grows h = tt
@@ -21,9 +21,6 @@ filling_stays ws vs (Some f) grows h =
     (fun_ext (λ n. whole_stays ws vs (given_numbered f.numbers.now f.given.items n) grows (λ g e. h n g e)))
 
 -- ---- rules and their environments, side by side
-
-abbrev pub pending_in : List Whole → List (Option Filling) → List GrammarItem → List PendingData
-pending_in ws fs is = filled_items (map (filling_view ws) fs) (map item_view is)
 
 module _ (ws : List Whole) (items : List GrammarItem) (count place : ℕ) (rest : List (Option Filling)) where
   pub pending_next : (fs : List (Option Filling)) (f : Option Filling) (d : GrammarItem) → place < length items → place ≡ count → fs ≡ f ∷ rest →

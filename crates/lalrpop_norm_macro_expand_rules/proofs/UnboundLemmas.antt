@@ -3,42 +3,28 @@ use Rattle.std.proofs.Common.{◌≡◌, ℕ, List, [], ◌∷◌, ◌++◌, map
 use Rattle.std.proofs.Math.Path.{fun_ext}
 use Rattle.std.specs.List.{flat_map}
 use Rattle.std.proofs.lemmas.List.{map-append}
-use Rattle.lalrpop_norm_tree.specs.Symbols.{Kind, Part, Parts, group, ambiguous_id, terminal, nonterminal, call, repeated, chosen, named, tupled, lookahead, lookbehind, error_terminal, at, no_parts, part_and, kind_view}
+use Rattle.lalrpop_norm_tree.specs.Symbols.{Kind, Part, Parts, nonterminal, kind_view}
 use Rattle.lalrpop_norm_tree.specs.Items.{AlternativeData}
 use Rattle.lalrpop_norm_names.specs.Numbers.{number_in_table}
 use Rattle.lalrpop_norm_names.specs.declared.table.Names.{Names}
 use Rattle.lalrpop_norm_model.specs.PlainRules.{all_met, replaced_alternative}
 use Rattle.lalrpop_norm_nodes.specs.declared.given.Given.{Given}
-use Rattle.lalrpop_norm_nodes.specs.Filled.{filled, filled_kind, all_filled}
+use Rattle.lalrpop_norm_nodes.specs.Filled.{filled_leaf, all_filled}
 use Rattle.lalrpop_norm_nodes.specs.Given.{IsGiven}
 use Rattle.lalrpop_norm_nodes.specs.Waits.{parts_replaced}
 use Rattle.lalrpop_norm_nodes.specs.Wholes.{Whole, kind_at}
+use Rattle.lalrpop_norm_nodes.proofs.MapLemmas.{parts_kept}
 use Rattle.lalrpop_norm_macro_expand_rules.specs.Pending.{met_filled, shown_filled, read_filled, given_numbered, whole_numbered, shown_numbered}
 
 abbrev unbound : List ℕ → Option Kind
 unbound n = None
 
-mutual
-  filled_unbound : (p : Part) → filled unbound p ≡ p
-  filled_unbound (at s k) = ap (at s) (kind_unbound k)
+leaf_unbound : (k : Kind) → filled_leaf unbound k ≡ k
+leaf_unbound (nonterminal n) = refl
+leaf_unbound _ = refl
 
-  kind_unbound : (k : Kind) → filled_kind unbound k ≡ k
-  kind_unbound (group ps) = ap group (all_unbound ps)
-  kind_unbound (call n ps) = ap (call n) (all_unbound ps)
-  kind_unbound (repeated op p) = ap (repeated op) (filled_unbound p)
-  kind_unbound (chosen p) = ap chosen (filled_unbound p)
-  kind_unbound (named n p) = ap (named n) (filled_unbound p)
-  kind_unbound (tupled ns p) = ap (tupled ns) (filled_unbound p)
-  kind_unbound lookahead = refl
-  kind_unbound lookbehind = refl
-  kind_unbound (ambiguous_id a) = refl
-  kind_unbound (terminal t) = refl
-  kind_unbound (nonterminal n) = refl
-  kind_unbound error_terminal = refl
-
-  all_unbound : (ps : Parts) → all_filled unbound ps ≡ ps
-  all_unbound no_parts = refl
-  all_unbound (part_and p ps) = ap₂ part_and (filled_unbound p) (all_unbound ps)
+all_unbound : (ps : Parts) → all_filled unbound ps ≡ ps
+all_unbound ps = parts_kept (filled_leaf unbound) leaf_unbound ps
 
 met_unbound : (xs : List AlternativeData) → flat_map (met_filled unbound) xs ≡ flat_map (λ (a : AlternativeData). all_met a.parts) xs
 met_unbound [] = refl

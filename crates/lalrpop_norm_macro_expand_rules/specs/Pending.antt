@@ -2,14 +2,18 @@
 -- mentions.
 use Rattle.std.specs.Prelude.{◌≡◌, ⊤, ℕ, List, [], ◌∷◌, map, flat_map, Option, Some, None, option_map, option_and_then, slice_get}
 use Rattle.lalrpop_norm_tree.specs.Symbols.{Kind, Part, kind_view}
-use Rattle.lalrpop_norm_tree.specs.Items.{AlternativeData, RuleData, ItemData, rule_item, match_item, extern_item, intern_item, use_item, rule_view}
+use Rattle.lalrpop_norm_tree.specs.declared.items.GrammarItem.{GrammarItem}
+use Rattle.lalrpop_norm_tree.specs.Items.{AlternativeData, RuleData, ItemData, rule_item, match_item, extern_item, intern_item, use_item, item_view, rule_view}
 use Rattle.lalrpop_norm_names.specs.Numbers.{number_in_table}
 use Rattle.lalrpop_norm_names.specs.declared.table.Names.{Names}
 use Rattle.lalrpop_norm_model.specs.PlainRules.{all_met}
 use Rattle.lalrpop_norm_model.specs.Replaced.{all_replaced}
 use Rattle.lalrpop_norm_nodes.specs.declared.given.Given.{Given}
 use Rattle.lalrpop_norm_nodes.specs.Filled.{all_filled}
-use Rattle.lalrpop_norm_nodes.specs.Given.{IsGiven}
+use Rattle.lalrpop_norm_nodes.specs.declared.given.Environment.{Environment}
+use Rattle.lalrpop_norm_nodes.specs.declared.table.Table.{Table}
+use Rattle.lalrpop_norm_nodes.specs.Given.{whole_for, shown_for, IsGiven}
+use Rattle.lalrpop_norm_nodes.specs.Tables.{wholes_in}
 use Rattle.lalrpop_norm_nodes.specs.Waits.{parts_replaced}
 use Rattle.lalrpop_norm_nodes.specs.Wholes.{Whole, kind_at}
 use Rattle.lalrpop_norm_macro_expand_rules.specs.declared.pending.Filling.{Filling}
@@ -27,6 +31,16 @@ shown_filled f a = map parts_replaced (all_met (all_filled f a.parts))
 -- what it is once it is read
 abbrev pub read_filled : (List ℕ → Option Kind) → AlternativeData → AlternativeData
 read_filled f a = record a { parts = all_replaced (all_filled f a.parts) }
+
+-- the same of an alternative that is read in the environment of that table
+abbrev pub met_there : Table → Environment → AlternativeData → List Part
+met_there t e = met_filled (whole_for (wholes_in t) e)
+
+abbrev pub shown_there : Environment → AlternativeData → List Part
+shown_there e = shown_filled (shown_for e)
+
+abbrev pub read_there : Environment → AlternativeData → AlternativeData
+read_there e = read_filled (shown_for e)
 
 -- ---- rules
 
@@ -96,6 +110,10 @@ filled_rule ws f r = unread_rule r (whole_numbered ws f.numbers.now f.given.item
 
 abbrev pub pending_view : List Whole → Pending → PendingData
 pending_view ws p = filled_item (filling_view ws p.filling) (rule_item (rule_view p.rule))
+
+-- rules and their environments, side by side
+abbrev pub pending_in : List Whole → List (Option Filling) → List GrammarItem → List PendingData
+pending_in ws fs is = filled_items (map (filling_view ws) fs) (map item_view is)
 
 -- the environment stands for symbols
 abbrev pub IsFilling : List Whole → Filling → Type 0

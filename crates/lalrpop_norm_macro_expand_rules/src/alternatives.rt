@@ -3,9 +3,9 @@ ghost use Rattle.std.specs.Prelude.{◌≡◌, None, IfOk, option_map};
 ghost use Rattle.lalrpop_norm_tree.specs.Symbols.{parts_view};
 ghost use Rattle.lalrpop_norm_tree.specs.Types.{type_view};
 ghost use Rattle.lalrpop_norm_tree.specs.Items.{alternative_view};
-ghost use Rattle.lalrpop_norm_model.specs.MadeRules.{argument_kind, type_substituted, instance_alternative};
+ghost use Rattle.lalrpop_norm_model.specs.MadeRules.{type_substituted, instance_alternative};
 ghost use Rattle.lalrpop_norm_model.specs.Replaced.{all_replaced};
-ghost use Rattle.lalrpop_norm_macro_expand_rules.specs.Bound.{AreByNumber};
+ghost use Rattle.lalrpop_norm_macro_expand_rules.specs.Bound.{argument_in, AreByNumber};
 
 use crate::copied::all_copied;
 use crate::substituted::{Bindings, declared_type};
@@ -44,7 +44,7 @@ pub fn instance_type(
     // What is desugared is rewritten in the arguments.
     requires replaced { all_replaced (parts_view bindings.now.symbols.now) ≡ parts_view bindings.now.symbols.now }
     ensures { IfOk result (λ t. option_map type_view t
-        ≡ option_map (type_substituted (argument_kind bindings.now.names.now (parts_view bindings.now.symbols.now))) (option_map type_view ty.now)) }
+        ≡ option_map (type_substituted (argument_in bindings.now)) (option_map type_view ty.now)) }
 {
     match ty {
         None => Ok(None),

@@ -6,8 +6,8 @@ ghost use Rattle.lalrpop_norm_faults.specs.declared.kind.FaultKind.TheVariants.{
 ghost use Rattle.lalrpop_norm_conditions.specs.Conditions.{comparison, lacks_reading};
 ghost use Rattle.lalrpop_norm_model.specs.Grammars.{is_true};
 ghost use Rattle.lalrpop_norm_model.specs.Reading.{read_all};
-ghost use Rattle.lalrpop_norm_model.specs.MadeRules.{flat_reader, argument_kind};
-ghost use Rattle.lalrpop_norm_macro_expand_rules.specs.Bound.{AreByNumber};
+ghost use Rattle.lalrpop_norm_model.specs.MadeRules.{flat_reader};
+ghost use Rattle.lalrpop_norm_macro_expand_rules.specs.Bound.{argument_in, AreByNumber};
 ghost use Rattle.lalrpop_norm_macro_expand_rules.specs.Conditions.{quoted_text, value_faults};
 
 use crate::shortened::{shortened, shortened_symbol};
@@ -33,7 +33,7 @@ fn quoted(token: &TerminalString) -> Option<&Atom>
 /// The text of the quoted literal that a name is bound to.
 fn literal_bound<'a>(bindings: &Bindings<'a>, name: &NonterminalString) -> Option<&'a Atom>
     requires numbers { AreByNumber bindings.now }
-    ensures { option_map (λ t. t.now) result ≡ quoted_text (argument_kind bindings.now.names.now (parts_view bindings.now.symbols.now) name.now.0) }
+    ensures { option_map (λ t. t.now) result ≡ quoted_text (argument_in bindings.now name.now.0) }
 {
     match bound_to(bindings, name)? {
         SymbolKind::Terminal(token) => quoted(token),
@@ -105,7 +105,7 @@ pub fn is_kept(
     condition: &Option<Condition>,
 ) -> NormResult<bool>
     requires numbers { AreByNumber bindings.now }
-    ensures { RefusesOr result (value_faults (argument_kind bindings.now.names.now (parts_view bindings.now.symbols.now)) condition.now)
+    ensures { RefusesOr result (value_faults (argument_in bindings.now) condition.now)
         (λ b. b ≡ is_true comparison bindings.now.names.now (read_all flat_reader (parts_view bindings.now.symbols.now)) condition.now) }
 {
     let Some(condition) = condition else {

@@ -1,6 +1,7 @@
 //! Symbols of a macro's alternatives, copied with no argument in them. An identifier is a name from there on.
 ghost use Rattle.std.specs.Prelude.{◌≡◌, None, IfOk};
-ghost use Rattle.lalrpop_norm_tree.specs.Symbols.{group, call, repeated, named, tupled, kind_view, symbol_view, tuple_view, parts_view, expr_view, macro_view};
+ghost use Rattle.lalrpop_norm_tree.specs.Symbols.{group, call, repeated, named, tupled, kind_view, symbol_view, tuple_view, parts_view};
+ghost use Rattle.lalrpop_norm_tree.specs.Symbols.{expr_view, macro_view};
 ghost use Rattle.lalrpop_norm_model.specs.MadeRules.{substituted, kind_substituted, all_substituted};
 
 use crate::rules::repeat_of;
@@ -74,7 +75,8 @@ fn copied_group(alloc: Global, expr: &ExprSymbol) -> Result<SymbolKind, NoMemory
 
 #[cycle(copied)]
 fn copied_call(alloc: Global, instance: &MacroSymbol) -> Result<SymbolKind, NoMemory>
-    ensures { IfOk result (λ k. kind_view k ≡ call (macro_view instance.now).0 (all_substituted (λ n. None) (macro_view instance.now).1)) }
+    ensures { IfOk result (λ k. kind_view k
+        ≡ call (macro_view instance.now).0 (all_substituted (λ n. None) (macro_view instance.now).1)) }
 {
     let name = instance.name.clone()?;
     let args = all_copied(alloc, &instance.args)?;

@@ -57,7 +57,8 @@ pub fn location_rule(
     head: Head,
     action: ActionKind,
 ) -> Result<NonterminalData, NoMemory>
-    ensures { IfOk result (λ r. (k : Kind) → head.name ≡ kind_text k → rule_view r ≡ location_rule head.span k (action_view action)) }
+    ensures { IfOk result (λ r. (k : Kind) → head.name ≡ kind_text k
+        → rule_view r ≡ location_rule head.span k (action_view action)) }
 {
     let empty = Alternative {
         span: head.span,

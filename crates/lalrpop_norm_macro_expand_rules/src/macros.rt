@@ -1,5 +1,6 @@
 //! The macros of a grammar, by their names.
-ghost use Rattle.std.specs.Prelude.{◌≡◌, ℕ, List, ◌++◌, ◌∷◌, [], Some, None, IfOk, IfSome, OnOk, map, flat_map, option_map, bytes_eq, if◌then◌else◌};
+ghost use Rattle.std.specs.Prelude.{◌≡◌, ℕ, List, ◌++◌, ◌∷◌, [], Some, None, IfOk, IfSome, OnOk, map, flat_map, option_map, bytes_eq};
+ghost use Rattle.std.specs.Prelude.{if◌then◌else◌};
 ghost use Rattle.std.specs.BTreeMap.{get};
 ghost use Rattle.std.specs.List.{list_any};
 ghost use Rattle.std.specs.Ordering.{nat_cmp};
@@ -94,7 +95,8 @@ fn sort_rule(
     macros: &mut Macros,
 ) -> Result<(), NoMemory>
     requires { AreByName macros.old }
-    ensures others { OnOk result (map item_view others.new.items ≡ map item_view others.old.items ++ without_macro (rule_item (rule_view rule))) }
+    ensures others { OnOk result (map item_view others.new.items
+        ≡ map item_view others.old.items ++ without_macro (rule_item (rule_view rule))) }
     ensures macros { OnOk result (macros_in macros.new ≡ macros_in macros.old ++ macro_in (rule_item (rule_view rule))) }
     ensures named { OnOk result (AreByName macros.new) }
 {

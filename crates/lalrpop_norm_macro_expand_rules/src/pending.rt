@@ -4,7 +4,9 @@ ghost use Rattle.lalrpop_norm_tree.specs.Items.{item_view, rule_item, rule_view}
 ghost use Rattle.lalrpop_norm_faults.specs.Faults.{Refuses};
 ghost use Rattle.lalrpop_norm_nodes.specs.Tables.{wholes_in, IsNodeTable, IsCounted, TableMeets, refused_in};
 ghost use Rattle.lalrpop_norm_nodes.specs.Waits.{LeavesWaiting};
-ghost use Rattle.lalrpop_norm_macro_expand_rules.specs.Pending.{met_in_pending, shown_in_pending, pending_read, filling_view, filled_rule, filled_item, filled_items, IsFilling, IsReadable, AreReadable};
+ghost use Rattle.lalrpop_norm_macro_expand_rules.specs.Pending.{met_in_pending, shown_in_pending, pending_read};
+ghost use Rattle.lalrpop_norm_macro_expand_rules.specs.Pending.{filling_view, filled_rule, filled_item, pending_in};
+ghost use Rattle.lalrpop_norm_macro_expand_rules.specs.Pending.{IsFilling, IsReadable, AreReadable};
 
 use crate::items::room_for;
 use crate::reading::read_alternatives;
@@ -43,11 +45,15 @@ fn read_rule(
     requires table { IsNodeTable table.old }
     requires counted { IsCounted table.old }
     requires readable { IsFilling (wholes_in table.old) filling.now }
-    ensures refuses { Refuses result (refused_in table.old (met_in_pending (filled_rule (wholes_in table.old) filling.now (rule_view rule.old)))) }
-    ensures meets { OnOk result (TableMeets table.old table.new (met_in_pending (filled_rule (wholes_in table.old) filling.now (rule_view rule.old)))) }
+    ensures refuses { Refuses result (refused_in table.old
+        (met_in_pending (filled_rule (wholes_in table.old) filling.now (rule_view rule.old)))) }
+    ensures meets { OnOk result (TableMeets table.old table.new
+        (met_in_pending (filled_rule (wholes_in table.old) filling.now (rule_view rule.old)))) }
     ensures counted { OnOk result (IsCounted table.new) }
-    ensures waits { OnOk result (LeavesWaiting table.old table.new (shown_in_pending (filled_rule (wholes_in table.old) filling.now (rule_view rule.old)))) }
-    ensures value { OnOk result (rule_item (rule_view rule.new) ≡ pending_read (filled_rule (wholes_in table.old) filling.now (rule_view rule.old))) }
+    ensures waits { OnOk result (LeavesWaiting table.old table.new
+        (shown_in_pending (filled_rule (wholes_in table.old) filling.now (rule_view rule.old)))) }
+    ensures value { OnOk result (rule_item (rule_view rule.new)
+        ≡ pending_read (filled_rule (wholes_in table.old) filling.now (rule_view rule.old))) }
 {
     let environment = Environment {
         numbers: filling.numbers,
@@ -67,11 +73,15 @@ fn read_item(
     requires table { IsNodeTable table.old }
     requires counted { IsCounted table.old }
     requires readable { IsReadable (wholes_in table.old) filling }
-    ensures refuses { Refuses result (refused_in table.old (met_in_pending (filled_item (filling_view (wholes_in table.old) filling.entry) (item_view item.old)))) }
-    ensures meets { OnOk result (TableMeets table.old table.new (met_in_pending (filled_item (filling_view (wholes_in table.old) filling.entry) (item_view item.old)))) }
+    ensures refuses { Refuses result (refused_in table.old
+        (met_in_pending (filled_item (filling_view (wholes_in table.old) filling.entry) (item_view item.old)))) }
+    ensures meets { OnOk result (TableMeets table.old table.new
+        (met_in_pending (filled_item (filling_view (wholes_in table.old) filling.entry) (item_view item.old)))) }
     ensures counted { OnOk result (IsCounted table.new) }
-    ensures waits { OnOk result (LeavesWaiting table.old table.new (shown_in_pending (filled_item (filling_view (wholes_in table.old) filling.entry) (item_view item.old)))) }
-    ensures value { OnOk result (item_view item.new ≡ pending_read (filled_item (filling_view (wholes_in table.old) filling.entry) (item_view item.old))) }
+    ensures waits { OnOk result (LeavesWaiting table.old table.new
+        (shown_in_pending (filled_item (filling_view (wholes_in table.old) filling.entry) (item_view item.old)))) }
+    ensures value { OnOk result (item_view item.new
+        ≡ pending_read (filled_item (filling_view (wholes_in table.old) filling.entry) (item_view item.old))) }
 {
     let Some(filling) = filling else {
         return Ok(());
@@ -101,11 +111,15 @@ pub fn read_pending(
     requires counted { IsCounted table.old }
     requires long { length fillings.items ≡ length rules.old }
     requires readable { AreReadable (wholes_in table.old) fillings.items }
-    ensures refuses { Refuses result (refused_in table.old (flat_map met_in_pending (filled_items (map (filling_view (wholes_in table.old)) fillings.entry.items) (map item_view rules.old)))) }
-    ensures meets { OnOk result (TableMeets table.old table.new (flat_map met_in_pending (filled_items (map (filling_view (wholes_in table.old)) fillings.entry.items) (map item_view rules.old)))) }
+    ensures refuses { Refuses result (refused_in table.old
+        (flat_map met_in_pending (pending_in (wholes_in table.old) fillings.entry.items rules.old))) }
+    ensures meets { OnOk result (TableMeets table.old table.new
+        (flat_map met_in_pending (pending_in (wholes_in table.old) fillings.entry.items rules.old))) }
     ensures counted { OnOk result (IsCounted table.new) }
-    ensures waits { OnOk result (LeavesWaiting table.old table.new (flat_map shown_in_pending (filled_items (map (filling_view (wholes_in table.old)) fillings.entry.items) (map item_view rules.old)))) }
-    ensures value { OnOk result (map item_view rules.new ≡ map pending_read (filled_items (map (filling_view (wholes_in table.old)) fillings.entry.items) (map item_view rules.old))) }
+    ensures waits { OnOk result (LeavesWaiting table.old table.new
+        (flat_map shown_in_pending (pending_in (wholes_in table.old) fillings.entry.items rules.old))) }
+    ensures value { OnOk result (map item_view rules.new
+        ≡ map pending_read (pending_in (wholes_in table.old) fillings.entry.items rules.old)) }
 {
     for (place, filling) in fillings.into_iter().enumerate() {
         // The next rule is looked at before this one is read: then it comes from memory in time.

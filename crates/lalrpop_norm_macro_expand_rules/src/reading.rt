@@ -4,12 +4,11 @@ ghost use Rattle.lalrpop_norm_tree.specs.Items.{alternative_view};
 ghost use Rattle.lalrpop_norm_tree.specs.Symbols.{parts_view};
 ghost use Rattle.lalrpop_norm_faults.specs.Faults.{Refuses};
 ghost use Rattle.lalrpop_norm_model.specs.PlainRules.{all_met};
-ghost use Rattle.lalrpop_norm_model.specs.Replaced.{all_replaced};
-ghost use Rattle.lalrpop_norm_nodes.specs.Filled.{all_filled};
-ghost use Rattle.lalrpop_norm_nodes.specs.Given.{whole_for, shown_for, AreGiven};
-ghost use Rattle.lalrpop_norm_nodes.specs.Tables.{wholes_in, IsNodeTable, IsCounted, TableMeets, refused_in};
-ghost use Rattle.lalrpop_norm_nodes.specs.Waits.{parts_replaced, LeavesWaiting};
-ghost use Rattle.lalrpop_norm_macro_expand_rules.specs.Pending.{met_filled, shown_filled, read_filled};
+ghost use Rattle.lalrpop_norm_nodes.specs.Given.{all_whole, all_shown};
+ghost use Rattle.lalrpop_norm_nodes.specs.Reads.{CanRead};
+ghost use Rattle.lalrpop_norm_nodes.specs.Tables.{wholes_in, IsCounted, TableMeets, refused_in};
+ghost use Rattle.lalrpop_norm_nodes.specs.Waits.{all_shown_met, LeavesWaiting};
+ghost use Rattle.lalrpop_norm_macro_expand_rules.specs.Pending.{met_there, shown_there, read_there};
 
 use lalrpop_norm_faults::NormResult;
 use lalrpop_norm_nodes::given::Environment;
@@ -25,14 +24,14 @@ fn read_symbols(
     symbols: &mut [Symbol],
     table: &mut Table,
 ) -> NormResult<()>
-    requires table { IsNodeTable table.old }
-    requires counted { IsCounted table.old }
-    requires given { AreGiven (wholes_in table.old) environment.now }
-    ensures refuses { Refuses result (refused_in table.old (all_met (all_filled (whole_for (wholes_in table.old) environment.now) (parts_view symbols.old)))) }
-    ensures meets { OnOk result (TableMeets table.old table.new (all_met (all_filled (whole_for (wholes_in table.old) environment.now) (parts_view symbols.old)))) }
+    requires { CanRead table.old environment.now }
+    ensures refuses { Refuses result (refused_in table.old
+        (all_met (all_whole (wholes_in table.old) environment.now (parts_view symbols.old)))) }
+    ensures meets { OnOk result (TableMeets table.old table.new
+        (all_met (all_whole (wholes_in table.old) environment.now (parts_view symbols.old)))) }
     ensures counted { OnOk result (IsCounted table.new) }
-    ensures waits { OnOk result (LeavesWaiting table.old table.new (map parts_replaced (all_met (all_filled (shown_for environment.now) (parts_view symbols.old))))) }
-    ensures value { OnOk result (parts_view symbols.new ≡ all_replaced (all_filled (shown_for environment.now) (parts_view symbols.old))) }
+    ensures waits { OnOk result (LeavesWaiting table.old table.new (all_shown_met environment.now (parts_view symbols.old))) }
+    ensures value { OnOk result (parts_view symbols.new ≡ all_shown environment.now (parts_view symbols.old)) }
 {
     for i in 0..symbols.len() {
         read_symbol(alloc, environment, &mut symbols[i], table)?;
@@ -46,14 +45,12 @@ fn read_alternative(
     alternative: &mut Alternative,
     table: &mut Table,
 ) -> NormResult<()>
-    requires table { IsNodeTable table.old }
-    requires counted { IsCounted table.old }
-    requires given { AreGiven (wholes_in table.old) environment.now }
-    ensures refuses { Refuses result (refused_in table.old (met_filled (whole_for (wholes_in table.old) environment.now) (alternative_view alternative.old))) }
-    ensures meets { OnOk result (TableMeets table.old table.new (met_filled (whole_for (wholes_in table.old) environment.now) (alternative_view alternative.old))) }
+    requires { CanRead table.old environment.now }
+    ensures refuses { Refuses result (refused_in table.old (met_there table.old environment.now (alternative_view alternative.old))) }
+    ensures meets { OnOk result (TableMeets table.old table.new (met_there table.old environment.now (alternative_view alternative.old))) }
     ensures counted { OnOk result (IsCounted table.new) }
-    ensures waits { OnOk result (LeavesWaiting table.old table.new (shown_filled (shown_for environment.now) (alternative_view alternative.old))) }
-    ensures value { OnOk result (alternative_view alternative.new ≡ read_filled (shown_for environment.now) (alternative_view alternative.old)) }
+    ensures waits { OnOk result (LeavesWaiting table.old table.new (shown_there environment.now (alternative_view alternative.old))) }
+    ensures value { OnOk result (alternative_view alternative.new ≡ read_there environment.now (alternative_view alternative.old)) }
 {
     read_symbols(alloc, environment, &mut alternative.expr.symbols, table)
 }
@@ -65,14 +62,16 @@ pub(crate) fn read_alternatives(
     alternatives: &mut [Alternative],
     table: &mut Table,
 ) -> NormResult<()>
-    requires table { IsNodeTable table.old }
-    requires counted { IsCounted table.old }
-    requires given { AreGiven (wholes_in table.old) environment.now }
-    ensures refuses { Refuses result (refused_in table.old (flat_map (met_filled (whole_for (wholes_in table.old) environment.now)) (map alternative_view alternatives.old))) }
-    ensures meets { OnOk result (TableMeets table.old table.new (flat_map (met_filled (whole_for (wholes_in table.old) environment.now)) (map alternative_view alternatives.old))) }
+    requires { CanRead table.old environment.now }
+    ensures refuses { Refuses result (refused_in table.old
+        (flat_map (met_there table.old environment.now) (map alternative_view alternatives.old))) }
+    ensures meets { OnOk result (TableMeets table.old table.new
+        (flat_map (met_there table.old environment.now) (map alternative_view alternatives.old))) }
     ensures counted { OnOk result (IsCounted table.new) }
-    ensures waits { OnOk result (LeavesWaiting table.old table.new (flat_map (shown_filled (shown_for environment.now)) (map alternative_view alternatives.old))) }
-    ensures value { OnOk result (map alternative_view alternatives.new ≡ map (read_filled (shown_for environment.now)) (map alternative_view alternatives.old)) }
+    ensures waits { OnOk result (LeavesWaiting table.old table.new
+        (flat_map (shown_there environment.now) (map alternative_view alternatives.old))) }
+    ensures value { OnOk result (map alternative_view alternatives.new
+        ≡ map (read_there environment.now) (map alternative_view alternatives.old)) }
 {
     for i in 0..alternatives.len() {
         read_alternative(alloc, environment, &mut alternatives[i], table)?;

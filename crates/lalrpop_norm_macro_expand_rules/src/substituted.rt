@@ -3,9 +3,9 @@ ghost use Rattle.std.specs.Prelude.{◌≡◌, ◌∷◌, [], IfOk, option_map};
 ghost use Rattle.lalrpop_norm_tree_parts.specs.Accessors.{path_of};
 ghost use Rattle.lalrpop_norm_tree.specs.Symbols.{kind_view, parts_view};
 ghost use Rattle.lalrpop_norm_tree.specs.Types.{nominal, no_types, type_view, types_view, maybe_of};
-ghost use Rattle.lalrpop_norm_model.specs.MadeRules.{argument_kind, type_of_name, type_substituted, types_substituted, returned_substituted};
+ghost use Rattle.lalrpop_norm_model.specs.MadeRules.{type_of_name, type_substituted, types_substituted, returned_substituted};
 ghost use Rattle.lalrpop_norm_model.specs.Replaced.{all_replaced};
-ghost use Rattle.lalrpop_norm_macro_expand_rules.specs.Bound.{bound_in, bound_kind, AreByNumber};
+ghost use Rattle.lalrpop_norm_macro_expand_rules.specs.Bound.{argument_in, bound_in, bound_kind, AreByNumber};
 
 use lalrpop_norm_names::Names;
 use lalrpop_norm_tree::grammar::parse_tree::{
@@ -51,7 +51,7 @@ pub(crate) fn bound_to<'a>(
     name: &NonterminalString,
 ) -> Option<&'a SymbolKind>
     requires numbers { AreByNumber bindings.now }
-    ensures { option_map (λ k. kind_view k.now) result ≡ argument_kind bindings.now.names.now (parts_view bindings.now.symbols.now) name.now.0 }
+    ensures { option_map (λ k. kind_view k.now) result ≡ argument_in bindings.now name.now.0 }
 {
     kind_bound(bindings, name)
 }
@@ -172,7 +172,7 @@ pub(crate) fn declared_type(
 ) -> Result<TypeRef, NoMemory>
     requires numbers { AreByNumber bindings.now }
     requires replaced { all_replaced (parts_view bindings.now.symbols.now) ≡ parts_view bindings.now.symbols.now }
-    ensures { IfOk result (λ t. type_view t ≡ type_substituted (argument_kind bindings.now.names.now (parts_view bindings.now.symbols.now)) (type_view written.now)) }
+    ensures { IfOk result (λ t. type_view t ≡ type_substituted (argument_in bindings.now) (type_view written.now)) }
 {
     type_substituted(alloc, bindings, written)
 }

@@ -22,18 +22,13 @@ use Rattle.lalrpop_norm_nodes.specs.Apart.{nowhere, unplaced_kind, unplaced, all
 
 mutual
   kind_closed : (b a before after : ℕ) (k : Kind) → read_kind flat_reader b a (unplaced_kind k) ≡ read_kind flat_reader before after k
-  kind_closed b a before after (written.nonterminal n) = refl
-  kind_closed b a before after (written.ambiguous_id n) = refl
-  kind_closed b a before after (written.terminal t) = refl
   kind_closed b a before after (written.group ps) = ap group (parts_closed b a before after ps)
   kind_closed b a before after (written.call n ps) = ap (call n) (parts_closed b a before after ps)
   kind_closed b a before after (written.repeated op p) = ap (repeat_of op) (part_closed b a before after p)
   kind_closed b a before after (written.chosen p) = ap (wrapped chosen) (part_closed b a before after p)
   kind_closed b a before after (written.named n p) = ap (wrapped (named n.mutable n.name)) (part_closed b a before after p)
   kind_closed b a before after (written.tupled ns p) = ap (wrapped (tuple (closed_patterns_of ns))) (part_closed b a before after p)
-  kind_closed b a before after written.lookahead = refl
-  kind_closed b a before after written.lookbehind = refl
-  kind_closed b a before after written.error_terminal = refl
+  kind_closed b a before after _ = refl
 
   pub part_closed : (b a before after : ℕ) (p : Part) → read_part flat_reader b a (unplaced p) ≡ read_part flat_reader before after p
   part_closed b a before after (at s k) = kind_closed b a before after k
@@ -119,8 +114,6 @@ mutual
   unfolding kind_back parts_back wrapped_back
 
   kind_is : (b a : ℕ) (k : Kind) → kind_back (read_kind flat_reader b a k) ≡ unplaced_kind k
-  kind_is b a (written.nonterminal n) = refl
-  kind_is b a (written.ambiguous_id n) = refl
   kind_is b a (written.terminal t) = ap written.terminal (terminal_is t)
   kind_is b a (written.group ps) = ap written.group (parts_are b a ps)
   kind_is b a (written.call n ps) = ap (written.call n) (parts_are b a ps)
@@ -128,9 +121,7 @@ mutual
   kind_is b a (written.chosen p) = ap written.chosen (part_is b a p)
   kind_is b a (written.named n p) = ap (written.named n) (part_is b a p)
   kind_is b a (written.tupled ns p) = ap₂ written.tupled (patterns_are ns) (part_is b a p)
-  kind_is b a written.lookahead = refl
-  kind_is b a written.lookbehind = refl
-  kind_is b a written.error_terminal = refl
+  kind_is b a _ = refl
 
   part_is : (b a : ℕ) (p : Part) → at nowhere (kind_back (read_part flat_reader b a p)) ≡ unplaced p
   part_is b a (at s k) = ap (at nowhere) (kind_is b a k)
@@ -147,3 +138,22 @@ mutual
 pub unplaced_same : (p q : Part) → same_apart_from_spans p q ≡ true → unplaced p ≡ unplaced q
 unplaced_same p q e =
     sym (part_is 0 0 p) ∙ ap (λ g. at nowhere (kind_back g)) (symbol_test.sound (read_part flat_reader 0 0 p) (read_part flat_reader 0 0 q) e) ∙ part_is 0 0 q
+
+-- ---- spans are taken off once
+
+mutual
+  pub unplaced_twice : (k : Kind) → unplaced_kind (unplaced_kind k) ≡ unplaced_kind k
+  unplaced_twice (written.group ps) = ap written.group (all_unplaced_twice ps)
+  unplaced_twice (written.call n ps) = ap (written.call n) (all_unplaced_twice ps)
+  unplaced_twice (written.repeated op p) = ap (written.repeated op) (part_unplaced_twice p)
+  unplaced_twice (written.chosen p) = ap written.chosen (part_unplaced_twice p)
+  unplaced_twice (written.named n p) = ap (written.named n) (part_unplaced_twice p)
+  unplaced_twice (written.tupled ns p) = ap (written.tupled ns) (part_unplaced_twice p)
+  unplaced_twice _ = refl
+
+  part_unplaced_twice : (p : Part) → unplaced (unplaced p) ≡ unplaced p
+  part_unplaced_twice (at s k) = ap (at nowhere) (unplaced_twice k)
+
+  all_unplaced_twice : (ps : Parts) → all_unplaced (all_unplaced ps) ≡ all_unplaced ps
+  all_unplaced_twice no_parts = refl
+  all_unplaced_twice (part_and p ps) = ap₂ part_and (part_unplaced_twice p) (all_unplaced_twice ps)

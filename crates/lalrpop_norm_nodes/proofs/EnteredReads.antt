@@ -13,13 +13,12 @@ use Rattle.lalrpop_norm_nodes.specs.declared.table.Table.{Table}
 use Rattle.lalrpop_norm_nodes.specs.Given.{given_to, AreGiven, kind_whole, kind_shown}
 use Rattle.lalrpop_norm_nodes.specs.Meeting.{met_itself, own_text}
 use Rattle.lalrpop_norm_nodes.specs.Readings.{topped}
+use Rattle.lalrpop_norm_nodes.specs.Reads.{NumberRead, SymbolRead, KindRead}
 use Rattle.lalrpop_norm_nodes.specs.Tables.{wholes_in, own_at, own_text_in, TableMeets, refused_in}
 use Rattle.lalrpop_norm_nodes.specs.Waits.{LeavesWaiting}
 use Rattle.lalrpop_norm_nodes.specs.Wholes.{Whole, built, StandsFor}
-use Rattle.lalrpop_norm_nodes.proofs.KindReads.{KindRead}
 use Rattle.lalrpop_norm_nodes.proofs.MeetingLemmas.{on_ok_more, refuses_same}
 use Rattle.lalrpop_norm_nodes.proofs.ReadLemmas.{read_at, read_meets, read_refused, text_kept, value_kept}
-use Rattle.lalrpop_norm_nodes.proofs.SymbolReads.{NumberRead, SymbolRead}
 use Rattle.lalrpop_norm_nodes.proofs.WaitReads.{read_waits}
 
 -- l is what its kind became

@@ -14,7 +14,6 @@ use Rattle.lalrpop_norm_tree.specs.declared.symbol.SymbolKind.TheViews.{out-Expr
 use Rattle.lalrpop_norm_tree.specs.Symbols.{Kind, Parts, Call, group, call, kind_view, parts_view, symbol_view, expr_view, macro_view}
 use Rattle.lalrpop_norm_tree.proofs.SymbolViews.{group_seen}
 use Rattle.lalrpop_norm_model.specs.PlainRules.{all_met}
-use Rattle.lalrpop_norm_model.specs.Replaced.{all_replaced}
 use Rattle.lalrpop_norm_nodes.specs.declared.given.Environment.{Environment}
 use Rattle.lalrpop_norm_nodes.specs.declared.node.Node.{Node}
 use Rattle.lalrpop_norm_nodes.specs.declared.node.Node.TheVariants as node
@@ -22,23 +21,13 @@ use Rattle.lalrpop_norm_nodes.specs.declared.node.NamedUnary.TheVariants as name
 use Rattle.lalrpop_norm_nodes.specs.declared.node.Unary.TheVariants as unary
 use Rattle.lalrpop_norm_nodes.specs.declared.table.Table.{Table}
 use Rattle.lalrpop_norm_nodes.specs.Filled.{all_filled}
-use Rattle.lalrpop_norm_nodes.specs.Given.{whole_for, shown_for}
-use Rattle.lalrpop_norm_nodes.specs.Readings.{IsNodeFor}
+use Rattle.lalrpop_norm_nodes.specs.Given.{whole_for}
+use Rattle.lalrpop_norm_nodes.specs.Reads.{RowRead, KindRead, GroupRead, CallRead}
 use Rattle.lalrpop_norm_nodes.specs.Tables.{wholes_in, refused_in}
-use Rattle.lalrpop_norm_nodes.specs.Waits.{parts_replaced}
 use Rattle.lalrpop_norm_nodes.proofs.InsideReads.{group_is, group_for, call_is, call_for}
-use Rattle.lalrpop_norm_nodes.proofs.KindReads.{NodeRead, KindRead, refused_node}
+use Rattle.lalrpop_norm_nodes.proofs.KindReads.{refused_node}
 use Rattle.lalrpop_norm_nodes.proofs.KindsSeen.{call_seen, grouped_seen, called_seen}
 use Rattle.lalrpop_norm_nodes.proofs.MeetingLemmas.{on_ok_more}
-use Rattle.lalrpop_norm_nodes.proofs.RowRounds.{RowRead}
-
-abbrev pub GroupRead : Result Node NormFailure → Table → Table → Environment → Parts → Parts → Type 0
-GroupRead r a b e ps now = NodeRead r a b (all_met (all_filled (whole_for (wholes_in a) e) ps)) (map parts_replaced (all_met (all_filled (shown_for e) ps)))
-    (now ≡ all_replaced (all_filled (shown_for e) ps)) (λ n. IsNodeFor (wholes_in b) n (group (all_filled (whole_for (wholes_in a) e) ps)))
-
-abbrev pub CallRead : Result Node NormFailure → Table → Table → Environment → Call → Call → Type 0
-CallRead r a b e m now = NodeRead r a b (all_met (all_filled (whole_for (wholes_in a) e) m.1)) (map parts_replaced (all_met (all_filled (shown_for e) m.1)))
-    (now ≡ (m.0, all_replaced (all_filled (shown_for e) m.1))) (λ n. IsNodeFor (wholes_in b) n (call m.0 (all_filled (whole_for (wholes_in a) e) m.1)))
 
 module _ (a b : Table) (e : Environment) (ss now : List Symbol) where
   pub group_read : (g : ExprSymbol) (i : ℕ) → ss ≡ (out-ExprSymbol g).symbols.items → length now ≡ (out-ExprSymbol g).symbols.len → RowRead (Ok i) a b e ss (parts_view now) →

@@ -4,7 +4,7 @@ use Rattle.std.specs.Prelude.{not, ◌||◌, ◌&&◌, is_some}
 use Rattle.std.proofs.lemmas.Bool.{and_parts, and_from}
 use Rattle.std.proofs.lemmas.List.{map-append}
 use Rattle.lalrpop_norm_tree.specs.declared.symbol.Symbol.{Symbol}
-use Rattle.lalrpop_norm_tree.specs.Symbols.{Part, Parts, group, ambiguous_id, terminal, nonterminal, call, repeated, chosen, named, tupled, lookahead, lookbehind, error_terminal, at, no_parts, part_and, symbol_view, kind_view}
+use Rattle.lalrpop_norm_tree.specs.Symbols.{Part, Parts, group, call, repeated, chosen, named, tupled, at, no_parts, part_and, symbol_view, kind_view}
 use Rattle.lalrpop_norm_tree.specs.SymbolTexts.{part_text}
 use Rattle.lalrpop_norm_faults.specs.declared.kind.FaultKind.TheVariants.{SharedName}
 use Rattle.lalrpop_norm_faults.specs.Faults.{fault_if}
@@ -172,12 +172,7 @@ mutual
   met_unplaced (at s (chosen p)) = met_unplaced p
   met_unplaced (at s (named n p)) = met_unplaced p
   met_unplaced (at s (tupled ns p)) = met_unplaced p
-  met_unplaced (at s lookahead) = refl
-  met_unplaced (at s lookbehind) = refl
-  met_unplaced (at s (ambiguous_id a)) = refl
-  met_unplaced (at s (terminal t)) = refl
-  met_unplaced (at s (nonterminal n)) = refl
-  met_unplaced (at s error_terminal) = refl
+  met_unplaced (at s _) = refl
 
   all_met_unplaced : (ps : Parts) → map closed (all_met (all_unplaced ps)) ≡ map closed (all_met ps)
   all_met_unplaced no_parts = refl

@@ -2,7 +2,7 @@
 use Rattle.std.proofs.Common.{◌≡◌, ℕ, List, [], Bool, true, false, Result, Ok, Err, Box, Global, map, None, Option, Some, option_map, refl, sym, ap, ap₂, ◌∙◌, subst}
 use Rattle.std.specs.Result.{IfOk, OnOk, IsErrAnd}
 use Rattle.lalrpop_norm_faults.specs.declared.failure.NormFailure.{NormFailure}
-use Rattle.lalrpop_norm_faults.specs.Faults.{IsFirst, Refuses}
+use Rattle.lalrpop_norm_faults.specs.Faults.{IsFirst}
 use Rattle.lalrpop_norm_tree_names.specs.declared.names.NonterminalString.{NonterminalString}
 use Rattle.lalrpop_norm_tree_names.specs.declared.names.TerminalString.{TerminalString}
 use Rattle.lalrpop_norm_tree.specs.declared.symbol.ArgPattern.{ArgPattern}
@@ -28,9 +28,10 @@ use Rattle.lalrpop_norm_nodes.specs.declared.node.NamedLeaf.TheVariants.{Rule}
 use Rattle.lalrpop_norm_nodes.specs.declared.node.Unary.TheVariants as unary
 use Rattle.lalrpop_norm_nodes.specs.declared.table.Table.{Table}
 use Rattle.lalrpop_norm_nodes.specs.Filled.{filled_kind, inside_replaced}
-use Rattle.lalrpop_norm_nodes.specs.Given.{given_to, whole_for, shown_for, read_whole, kind_whole, kind_shown}
+use Rattle.lalrpop_norm_nodes.specs.Given.{given_to, shown_for, read_whole, kind_whole, kind_shown}
 use Rattle.lalrpop_norm_nodes.specs.Meeting.{met_inside}
 use Rattle.lalrpop_norm_nodes.specs.Readings.{IsNodeFor, repeat_node, named_node}
+use Rattle.lalrpop_norm_nodes.specs.Reads.{NodeRead, SymbolRead, RepeatRead, KindRead}
 use Rattle.lalrpop_norm_nodes.specs.Tables.{wholes_in, IsNodeTable, IsCounted, TableMeets, refused_in}
 use Rattle.lalrpop_norm_nodes.specs.Waits.{parts_replaced, LeavesWaiting}
 use Rattle.lalrpop_norm_nodes.specs.Wholes.{Whole, one_symbol, patterns, as_kind, kind_at, part_at, StandsFor}
@@ -42,29 +43,13 @@ use Rattle.lalrpop_norm_nodes.proofs.ReadLemmas.{read_at}
 use Rattle.lalrpop_norm_nodes.proofs.RowItems.{is_kind}
 use Rattle.lalrpop_norm_nodes.proofs.RowReads.{meets_row, counted_row}
 use Rattle.lalrpop_norm_nodes.proofs.RowRounds.{RowEntered}
-use Rattle.lalrpop_norm_nodes.proofs.SymbolReads.{SymbolRead, RepeatRead}
 use Rattle.lalrpop_norm_nodes.proofs.WaitLemmas.{waits_nothing, waits_row}
-
--- these were reached, and these are on the worklist for them
-abbrev pub NodeRead : Result Node NormFailure → Table → Table → List Part → List Part → Type 0 → (Node → Type 0) → Type 0
-NodeRead r a b xs ys Now Is = record {
-  refuses : Refuses r (refused_in a xs);
-  meets : OnOk r (TableMeets a b xs);
-  counted : OnOk r (IsCounted b);
-  waits : OnOk r (LeavesWaiting a b ys);
-  value : OnOk r Now;
-  node : IfOk r Is;
-}
 
 -- an error is passed on
 pub refused_node : (r : Result Node NormFailure) (a b : Table) (xs ys : List Part) (Now : Type 0) (Is : Node → Type 0) (f : NormFailure) → IsErrAnd r (λ g. g ≡ f) → IsFirst (refused_in a xs) f →
     NodeRead r a b xs ys Now Is
 refused_node (Ok n) a b xs ys Now Is f from h = absurd from
 refused_node (Err g) a b xs ys Now Is f from h = record { refuses = err_refuses {T = Node} (Err g) f _ from h; meets = tt; counted = tt; waits = tt; value = tt; node = tt }
-
-abbrev pub KindRead : Result Node NormFailure → Table → Table → Environment → Kind → Kind → Type 0
-KindRead r a b e k now = NodeRead r a b (met_inside (kind_whole (wholes_in a) e k)) (map parts_replaced (met_inside (filled_kind (shown_for e) k))) (now ≡ kind_shown e k)
-    (λ n. IsNodeFor (wholes_in b) n (kind_whole (wholes_in a) e k))
 
 pub refused_kind : (r : Result Node NormFailure) (a b : Table) (e : Environment) (k l now : Kind) (f : NormFailure) → IsErrAnd r (λ g. g ≡ f) → k ≡ l →
     IsFirst (refused_in a (met_inside (kind_whole (wholes_in a) e l))) f → KindRead r a b e k now

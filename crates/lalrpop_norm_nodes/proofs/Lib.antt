@@ -13,6 +13,7 @@ pub mod KindReads
 pub mod KindsSeen
 pub mod ListedLemmas
 pub mod MadeKinds
+pub mod MapLemmas
 pub mod MeetLemmas
 pub mod MeetingLemmas
 pub mod NodePartLemmas

@@ -4,7 +4,7 @@ use Rattle.std.specs.Prelude.{not, ◌||◌}
 use Rattle.std.proofs.lemmas.Bool.{and_parts, and_from}
 use Rattle.std.proofs.lemmas.List.{map-append}
 use Rattle.lalrpop_norm_tree_names.specs.declared.names.Span.{Span}
-use Rattle.lalrpop_norm_tree.specs.Symbols.{Kind, Part, at, group, ambiguous_id, terminal, nonterminal, call, repeated, chosen, named, tupled, lookahead, lookbehind, error_terminal}
+use Rattle.lalrpop_norm_tree.specs.Symbols.{Kind, Part, at}
 use Rattle.lalrpop_norm_tree.specs.SymbolTexts.{part_text, kind_text}
 use Rattle.lalrpop_norm_faults.specs.Faults.{Fault, fault_if}
 use Rattle.lalrpop_norm_faults.specs.declared.kind.FaultKind.TheVariants.{SharedName}
@@ -13,11 +13,13 @@ use Rattle.lalrpop_norm_theory.specs.Same.{same_symbol}
 use Rattle.lalrpop_norm_model.specs.MadeRules.{span_of}
 use Rattle.lalrpop_norm_model.specs.PlainRules.{met}
 use Rattle.lalrpop_norm_model.specs.PlainTables.{closed}
+use Rattle.lalrpop_norm_model.specs.Replaced.{is_desugared}
 use Rattle.lalrpop_norm_nodes.specs.Apart.{nowhere, unplaced_kind, unplaced}
 use Rattle.lalrpop_norm_nodes.specs.Meeting.{met_inside, own, first_with_text, joined_by, after_one, after, differs, clashes, clash_faults, were_met, has_key}
 use Rattle.lalrpop_norm_nodes.proofs.ApartLemmas.{part_closed}
 use Rattle.lalrpop_norm_nodes.proofs.SamenessLemmas.{closed_text_same}
 use Rattle.lalrpop_norm_nodes.proofs.MeetingLemmas.{after_both, clash_both}
+use Rattle.lalrpop_norm_nodes.proofs.SymbolLemmas.{split_at}
 use Rattle.lalrpop_norm_nodes.proofs.InwardLemmas.{quiet, were_both, same_met}
 use Rattle.lalrpop_norm_nodes.specs.declared.table.Table.{Table}
 use Rattle.lalrpop_norm_nodes.specs.Wholes.{Whole, one_symbol, StandsFor, Grows}
@@ -101,38 +103,11 @@ refused_later a b xs ys h none = refused_both a b xs ys h ∙ ap (λ (fs : List 
 -- ---- a symbol that is there reaches nothing new, wherever it is
 
 own_moved : (names : List ℕ → Bool) (seen : List Part) (s : Span) (k : Kind) → were_met names seen (own nowhere k) ≡ true → were_met names seen (own s k) ≡ true
-own_moved names seen s k h = by k h
+own_moved names seen s k h = by (is_desugared k) h
   where
-    one : (k : Kind) → were_met names seen (at nowhere k ∷ []) ≡ true → were_met names seen (at s k ∷ []) ≡ true
-    one k g = and_from _ _ (same_met names seen (at nowhere k) (at s k) refl (and_parts _ _ g).0) refl
-
-    by : (k : Kind) → were_met names seen (own nowhere k) ≡ true → were_met names seen (own s k) ≡ true
-    by (group ps) g = one (group ps) g
-    by (call n ps) g = one (call n ps) g
-    by (repeated op q) g = one (repeated op q) g
-    by lookahead g = one lookahead g
-    by lookbehind g = one lookbehind g
-    by (chosen q) g = refl
-    by (named n q) g = refl
-    by (tupled ns q) g = refl
-    by (ambiguous_id a) g = refl
-    by (terminal u) g = refl
-    by (nonterminal n) g = refl
-    by error_terminal g = refl
-
-pub split_at : (s : Span) (k : Kind) → met (at s k) ≡ met_inside k ++ own s k
-split_at s (group ps) = refl
-split_at s (call n ps) = refl
-split_at s (repeated op q) = refl
-split_at s (chosen q) = sym (append-nil (met q))
-split_at s (named n q) = sym (append-nil (met q))
-split_at s (tupled ns q) = sym (append-nil (met q))
-split_at s (ambiguous_id a) = refl
-split_at s (terminal t) = refl
-split_at s (nonterminal n) = refl
-split_at s lookahead = refl
-split_at s lookbehind = refl
-split_at s error_terminal = refl
+    by : (b : Bool) → were_met names seen (cond b (at nowhere k ∷ []) []) ≡ true → were_met names seen (cond b (at s k ∷ []) []) ≡ true
+    by true g = and_from _ _ (same_met names seen (at nowhere k) (at s k) refl (and_parts _ _ g).0) refl
+    by false g = refl
 
 pub were_left : (names : List ℕ → Bool) (seen xs ys : List Part) → were_met names seen (xs ++ ys) ≡ true → were_met names seen xs ≡ true
 were_left names seen [] ys h = refl

@@ -2,7 +2,7 @@
 use Rattle.std.proofs.Common.{◌≡◌, ℕ, List, [], ◌∷◌, ◌++◌, Bool, Option, Some, None, map, option_map, refl, sym, ap, ap₂, ◌∙◌, subst}
 use Rattle.lalrpop_norm_tree_names.specs.declared.names.Span.{Span}
 use Rattle.lalrpop_norm_tree.specs.declared.symbol.Symbol.{Symbol}
-use Rattle.lalrpop_norm_tree.specs.Symbols.{Kind, Part, Parts, no_parts, part_and, at, group, ambiguous_id, terminal, nonterminal, call, repeated, chosen, named, tupled, lookahead, lookbehind, error_terminal, kind_view, symbol_view}
+use Rattle.lalrpop_norm_tree.specs.Symbols.{Kind, Part, at, group, nonterminal, call, repeated, kind_view, symbol_view}
 use Rattle.lalrpop_norm_tree.specs.SymbolTexts.{kind_text}
 use Rattle.lalrpop_norm_tree.proofs.SymbolViews.{seen_at}
 use Rattle.lalrpop_norm_model.specs.Replaced.{replaced_kind}
@@ -14,58 +14,30 @@ use Rattle.lalrpop_norm_theory.specs.Symbols.{ClosedSymbol}
 use Rattle.lalrpop_norm_theory.specs.Same.{same_symbol}
 use Rattle.lalrpop_norm_model.specs.PlainRules.{met}
 use Rattle.lalrpop_norm_model.specs.PlainTables.{closed}
-use Rattle.lalrpop_norm_nodes.specs.Apart.{nowhere, unplaced, unplaced_kind, all_unplaced}
+use Rattle.lalrpop_norm_nodes.specs.Apart.{nowhere, unplaced, unplaced_kind}
 use Rattle.lalrpop_norm_nodes.specs.Meeting.{met_inside, own, own_text, first_with_text, joined_by, after, differs, clashes, clash_faults}
-use Rattle.lalrpop_norm_nodes.proofs.ApartLemmas.{part_closed}
+use Rattle.lalrpop_norm_nodes.proofs.ApartLemmas.{part_closed, unplaced_twice}
 use Rattle.lalrpop_norm_model.specs.MadeRules.{or_name}
 use Rattle.lalrpop_norm_nodes.specs.declared.given.Given.{Given}
 use Rattle.lalrpop_norm_nodes.specs.declared.given.Environment.{Environment}
 use Rattle.lalrpop_norm_nodes.specs.Filled.{filled_kind}
 use Rattle.lalrpop_norm_nodes.specs.Given.{given_to, shown_for, IsGiven, AreGiven, read_whole, kind_whole, read_shown, kind_shown}
 use Rattle.lalrpop_norm_nodes.specs.declared.table.Table.{Table}
-use Rattle.lalrpop_norm_nodes.proofs.MeetLemmas.{kind_text_unplaced, split_at, meets_both, refused_later, standing_met}
+use Rattle.lalrpop_norm_nodes.proofs.MeetLemmas.{kind_text_unplaced, meets_both, refused_later, standing_met}
+use Rattle.lalrpop_norm_nodes.proofs.SymbolLemmas.{split_at}
 use Rattle.lalrpop_norm_nodes.specs.Wholes.{Whole, one_symbol, kind_at, StandsFor}
 use Rattle.lalrpop_norm_nodes.specs.Tables.{wholes_in, own_at, is_declared_in, seen_in, IsNodeTable, TableMeets, refused_in}
 use Rattle.lalrpop_norm_nodes.specs.Filled.{inside_replaced}
 use Rattle.lalrpop_norm_nodes.specs.Readings.{topped, topped_kind}
-use Rattle.lalrpop_norm_nodes.proofs.GivenLemmas.{inside_text, shown_text}
+use Rattle.lalrpop_norm_nodes.proofs.GivenLemmas.{shown_text}
+use Rattle.lalrpop_norm_nodes.proofs.TwiceLemmas.{inside_text}
 
 -- a symbol, its parts rewritten, itself rewritten, is the symbol rewritten
 pub topped_inside : (k : Kind) → topped_kind (inside_replaced k) ≡ replaced_kind k
 topped_inside (group ps) = ap nonterminal (inside_text (group ps))
 topped_inside (call n ps) = ap nonterminal (inside_text (call n ps))
 topped_inside (repeated op p) = ap nonterminal (inside_text (repeated op p))
-topped_inside lookahead = refl
-topped_inside lookbehind = refl
-topped_inside (chosen p) = refl
-topped_inside (named n p) = refl
-topped_inside (tupled ns p) = refl
-topped_inside (ambiguous_id a) = refl
-topped_inside (terminal t) = refl
-topped_inside (nonterminal n) = refl
-topped_inside error_terminal = refl
-
-mutual
-  pub unplaced_twice : (k : Kind) → unplaced_kind (unplaced_kind k) ≡ unplaced_kind k
-  unplaced_twice (group ps) = ap group (all_unplaced_twice ps)
-  unplaced_twice (call n ps) = ap (call n) (all_unplaced_twice ps)
-  unplaced_twice (repeated op p) = ap (repeated op) (part_unplaced_twice p)
-  unplaced_twice (chosen p) = ap chosen (part_unplaced_twice p)
-  unplaced_twice (named n p) = ap (named n) (part_unplaced_twice p)
-  unplaced_twice (tupled ns p) = ap (tupled ns) (part_unplaced_twice p)
-  unplaced_twice (ambiguous_id a) = refl
-  unplaced_twice (terminal t) = refl
-  unplaced_twice (nonterminal n) = refl
-  unplaced_twice lookahead = refl
-  unplaced_twice lookbehind = refl
-  unplaced_twice error_terminal = refl
-
-  part_unplaced_twice : (p : Part) → unplaced (unplaced p) ≡ unplaced p
-  part_unplaced_twice (at s k) = ap (at nowhere) (unplaced_twice k)
-
-  all_unplaced_twice : (ps : Parts) → all_unplaced (all_unplaced ps) ≡ all_unplaced ps
-  all_unplaced_twice no_parts = refl
-  all_unplaced_twice (part_and p ps) = ap₂ part_and (part_unplaced_twice p) (all_unplaced_twice ps)
+topped_inside _ = refl
 
 -- ---- a symbol that is read reaches what is inside it, then itself
 
@@ -100,29 +72,13 @@ module _ (names : List ℕ → Bool) (seen : List Part) (s : Span) where
   own_faults (group ps) = fault_unplaced (group ps)
   own_faults (call n ps) = fault_unplaced (call n ps)
   own_faults (repeated op q) = fault_unplaced (repeated op q)
-  own_faults lookahead = refl
-  own_faults lookbehind = refl
-  own_faults (chosen q) = refl
-  own_faults (named n q) = refl
-  own_faults (tupled ns q) = refl
-  own_faults (ambiguous_id a) = refl
-  own_faults (terminal t) = refl
-  own_faults (nonterminal n) = refl
-  own_faults error_terminal = refl
+  own_faults _ = refl
 
   pub own_after : (k : Kind) → map unplaced (after seen (own s (unplaced_kind k))) ≡ map unplaced (after seen (own s k))
   own_after (group ps) = after_unplaced (group ps)
   own_after (call n ps) = after_unplaced (call n ps)
   own_after (repeated op q) = after_unplaced (repeated op q)
-  own_after lookahead = refl
-  own_after lookbehind = refl
-  own_after (chosen q) = refl
-  own_after (named n q) = refl
-  own_after (tupled ns q) = refl
-  own_after (ambiguous_id a) = refl
-  own_after (terminal t) = refl
-  own_after (nonterminal n) = refl
-  own_after error_terminal = refl
+  own_after _ = refl
 
 -- reached, and its errors, in terms of the whole symbol
 pub read_meets : (a b d : Table) (s : Span) (k : Kind) → TableMeets a b (met_inside k) → TableMeets b d (own_at s (one_symbol (unplaced_kind k))) → TableMeets a d (met (at s k))
@@ -154,16 +110,7 @@ bound_is ws e (nonterminal n) g h f = record {
   given = h n g f;
 }
 bound_is ws e (group ps) g h f = absurd (cc f)
-bound_is ws e (call n ps) g h f = absurd (cc f)
-bound_is ws e (repeated op q) g h f = absurd (cc f)
-bound_is ws e lookahead g h f = absurd (cc f)
-bound_is ws e lookbehind g h f = absurd (cc f)
-bound_is ws e (chosen q) g h f = absurd (cc f)
-bound_is ws e (named n q) g h f = absurd (cc f)
-bound_is ws e (tupled ns q) g h f = absurd (cc f)
-bound_is ws e (ambiguous_id a) g h f = absurd (cc f)
-bound_is ws e (terminal t) g h f = absurd (cc f)
-bound_is ws e error_terminal g h f = absurd (cc f)
+bound_is ws e _ g h f = absurd (cc f)
 
 -- what is read at a symbol
 pub read_at : (ws : List Whole) (e : Environment) (s : Symbol) → read_whole ws e (symbol_view s) ≡ at s.span (kind_whole ws e (kind_view s.kind))
@@ -200,17 +147,10 @@ pub text_kept : (ws : List Whole) (e : Environment) (s : Span) (k : Kind) → Ar
 text_kept ws e s (group ps) h f = ap Some (kind_text_unplaced (kind_whole ws e (group ps)) ∙ sym (shown_text ws e h (group ps)))
 text_kept ws e s (call n ps) h f = ap Some (kind_text_unplaced (kind_whole ws e (call n ps)) ∙ sym (shown_text ws e h (call n ps)))
 text_kept ws e s (repeated op q) h f = ap Some (kind_text_unplaced (kind_whole ws e (repeated op q)) ∙ sym (shown_text ws e h (repeated op q)))
-text_kept ws e s lookahead h f = refl
-text_kept ws e s lookbehind h f = refl
-text_kept ws e s (chosen q) h f = refl
-text_kept ws e s (named n q) h f = refl
-text_kept ws e s (tupled ns q) h f = refl
-text_kept ws e s (ambiguous_id a) h f = refl
-text_kept ws e s (terminal t) h f = refl
-text_kept ws e s error_terminal h f = refl
 text_kept ws e s (nonterminal n) h f =
     ap (λ (o : Option Given). own_text (at nowhere (unplaced_kind (or_name n (option_map (λ x. kind_at ws x.number) o))))) f
     ∙ sym (ap (λ (o : Option Given). own_text (at s (inside_replaced (or_name n (option_map (λ x. kind_view x.symbol.kind) o))))) f)
+text_kept ws e s _ h f = refl
 
 pub value_kept : (e : Environment) (s : Symbol) → topped (at s.span (kind_shown e (kind_view s.kind))) ≡ read_shown e (symbol_view s)
 value_kept e s = ap (at s.span) (topped_inside (filled_kind (shown_for e) (kind_view s.kind))) ∙ sym (shown_at e s)

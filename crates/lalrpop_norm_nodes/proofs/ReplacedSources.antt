@@ -1,6 +1,6 @@
 -- The sources of a group, once its symbols are replaced: as many, and with the same types.
 use Rattle.std.proofs.Common.{◌≡◌, List, [], ◌∷◌, map, refl, ap, ap₂, ◌∙◌}
-use Rattle.lalrpop_norm_tree.specs.Symbols.{Kind, Part, Parts, group, ambiguous_id, terminal, nonterminal, call, repeated, chosen, named, tupled, lookahead, lookbehind, error_terminal, at, no_parts, part_and}
+use Rattle.lalrpop_norm_tree.specs.Symbols.{Kind, Part, Parts, chosen, at, no_parts, part_and}
 use Rattle.lalrpop_norm_tree.specs.Types.{TypeData, of_symbol}
 use Rattle.lalrpop_norm_model.specs.MadeRules.{kind_of, chosen_kinds, all_kinds, if_any, group_sources, type_of_kind, bare_or_tuple_code}
 use Rattle.lalrpop_norm_model.specs.Replaced.{replaced, replaced_kind, all_replaced}
@@ -16,17 +16,7 @@ all_kinds_replaced (part_and p ps) = ap₂ (λ (k : Kind) (ks : List Kind). k �
 chosen_replaced : (ps : Parts) → chosen_kinds (all_replaced ps) ≡ map replaced_kind (chosen_kinds ps)
 chosen_replaced no_parts = refl
 chosen_replaced (part_and (at s (chosen p)) ps) = ap₂ (λ (k : Kind) (ks : List Kind). k ∷ ks) (kind_replaced p) (chosen_replaced ps)
-chosen_replaced (part_and (at s (group qs)) ps) = chosen_replaced ps
-chosen_replaced (part_and (at s (call n qs)) ps) = chosen_replaced ps
-chosen_replaced (part_and (at s (repeated op q)) ps) = chosen_replaced ps
-chosen_replaced (part_and (at s lookahead) ps) = chosen_replaced ps
-chosen_replaced (part_and (at s lookbehind) ps) = chosen_replaced ps
-chosen_replaced (part_and (at s (ambiguous_id a)) ps) = chosen_replaced ps
-chosen_replaced (part_and (at s (terminal t)) ps) = chosen_replaced ps
-chosen_replaced (part_and (at s (nonterminal n)) ps) = chosen_replaced ps
-chosen_replaced (part_and (at s (named n q)) ps) = chosen_replaced ps
-chosen_replaced (part_and (at s (tupled ns q)) ps) = chosen_replaced ps
-chosen_replaced (part_and (at s error_terminal) ps) = chosen_replaced ps
+chosen_replaced (part_and (at s _) ps) = chosen_replaced ps
 
 pub sources_replaced : (ps : Parts) → group_sources (all_replaced ps) ≡ map replaced_kind (group_sources ps)
 sources_replaced ps = ap₂ if_any (chosen_replaced ps) (all_kinds_replaced ps) ∙ by (chosen_kinds ps)

@@ -282,8 +282,6 @@ module _ (ns : List Node) (ws : List Whole) (rows : AreRows ns ws) where
   one_node (one_pattern (several ps)) m n h k = one_of_several ps m n h k
   one_node (one_symbol (group ps)) m n h k = one_of_symbols (node.Unary unary.Group) ps m n h k
   one_node (one_symbol (ambiguous_id a)) m n h k = absurd h
-  one_node (one_symbol (terminal t)) m n h k = h ∙ sym k
-  one_node (one_symbol (nonterminal a)) m n h k = h ∙ sym k
   one_node (one_symbol (call a ps)) m n h k = one_of_symbols (node.NamedUnary named_unary.Call a) ps m n h k
   one_node (one_symbol (repeated Star p)) m n h k = one_of_part (node.Unary unary.Star) p m n h k
   one_node (one_symbol (repeated Plus p)) m n h k = one_of_part (node.Unary unary.Plus) p m n h k
@@ -292,9 +290,7 @@ module _ (ns : List Node) (ws : List Whole) (rows : AreRows ns ws) where
   one_node (one_symbol (chosen p)) m n h k = one_of_part (node.Unary unary.Chosen) p m n h k
   one_node (one_symbol (named a p)) m n h k = one_of_part (node.NamedUnary (if a.mutable then named_unary.NamedMut else named_unary.Named) a.name) p m n h k
   one_node (one_symbol (tupled ps p)) m n h k = one_of_tuple ps p m n h k
-  one_node (one_symbol lookahead) m n h k = h ∙ sym k
-  one_node (one_symbol lookbehind) m n h k = h ∙ sym k
-  one_node (one_symbol error_terminal) m n h k = h ∙ sym k
+  one_node (one_symbol _) m n h k = h ∙ sym k
 
   -- nodes that stand for the same are the same
   pub node_told : (m n : Node) → Fits ws m → Fits ws n → built ws m ≡ built ws n → m ≡ n

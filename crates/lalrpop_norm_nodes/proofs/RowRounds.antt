@@ -8,7 +8,6 @@ use Rattle.lalrpop_norm_faults.specs.Faults.{IsFirst}
 use Rattle.lalrpop_norm_tree.specs.declared.symbol.Symbol.{Symbol}
 use Rattle.lalrpop_norm_tree.specs.Symbols.{Kind, Part, Parts, parts_of, parts_view, symbol_view}
 use Rattle.lalrpop_norm_model.specs.PlainRules.{met, all_met}
-use Rattle.lalrpop_norm_model.specs.Replaced.{all_replaced}
 use Rattle.lalrpop_norm_nodes.specs.Apart.{unplaced}
 use Rattle.lalrpop_norm_nodes.specs.declared.given.Environment.{Environment}
 use Rattle.lalrpop_norm_nodes.specs.declared.node.Node.TheVariants as node
@@ -17,15 +16,16 @@ use Rattle.lalrpop_norm_nodes.specs.declared.table.Table.{Table}
 use Rattle.lalrpop_norm_nodes.specs.Filled.{filled, all_filled}
 use Rattle.lalrpop_norm_nodes.specs.Given.{AreGiven, whole_for, shown_for, read_whole, read_shown}
 use Rattle.lalrpop_norm_nodes.specs.Readings.{bare_wholes}
+use Rattle.lalrpop_norm_nodes.specs.Reads.{SymbolRead, RowRead}
 use Rattle.lalrpop_norm_nodes.specs.Tables.{wholes_in, IsNodeTable, IsCounted, TableMeets, refused_in}
-use Rattle.lalrpop_norm_nodes.specs.Waits.{parts_replaced, shown_met, LeavesWaiting}
+use Rattle.lalrpop_norm_nodes.specs.Waits.{shown_met, LeavesWaiting}
 use Rattle.lalrpop_norm_nodes.specs.Wholes.{Whole, symbols, built, StandsFor}
 use Rattle.lalrpop_norm_nodes.proofs.GivenLemmas.{all_given_stay, wholes_stay}
 use Rattle.lalrpop_norm_nodes.proofs.InPlace.{still, partly_more, partly_met, partly_quiet, partly_exit}
 use Rattle.lalrpop_norm_nodes.proofs.MeetingLemmas.{err_refuses, refuses_same}
 use Rattle.lalrpop_norm_nodes.proofs.ReadLemmas.{read_at}
 use Rattle.lalrpop_norm_nodes.proofs.RowReads.{meets_row, met_one_by_one, shown_one_by_one, first_same, counted_row, row_more}
-use Rattle.lalrpop_norm_nodes.proofs.SymbolReads.{NumberRead, SymbolRead, refused_number}
+use Rattle.lalrpop_norm_nodes.proofs.SymbolReads.{refused_number}
 use Rattle.lalrpop_norm_nodes.proofs.WaitLemmas.{waits_plain, waits_row}
 use Rattle.lalrpop_norm_nodes.proofs.WaitReads.{shown_met_one_by_one, partly_waits}
 
@@ -37,10 +37,6 @@ RowEntered b d i w = record {
   waiting : d.waiting ≡ b.waiting;
   number : StandsFor (wholes_in d) i w;
 }
-
-abbrev pub RowRead : Result ℕ NormFailure → Table → Table → Environment → List Symbol → Parts → Type 0
-RowRead r a b e ss now = NumberRead r a b (all_met (all_filled (whole_for (wholes_in a) e) (parts_view ss))) (map parts_replaced (all_met (all_filled (shown_for e) (parts_view ss))))
-    (now ≡ all_replaced (all_filled (shown_for e) (parts_view ss))) (λ i. StandsFor (wholes_in b) i (symbols (bare_wholes (wholes_in a) e (map symbol_view ss))))
 
 pub refused_row : (r : Result ℕ NormFailure) (a b : Table) (e : Environment) (ss : List Symbol) (now : Parts) (f : NormFailure) → IsErrAnd r (λ g. g ≡ f) →
     IsFirst (refused_in a (all_met (all_filled (whole_for (wholes_in a) e) (parts_view ss)))) f → RowRead r a b e ss now

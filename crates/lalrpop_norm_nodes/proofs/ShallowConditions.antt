@@ -3,9 +3,9 @@ use Rattle.std.proofs.Common.{◌≡◌, ℕ, List, [], ◌∷◌, Bool, true, f
 use Rattle.std.specs.Prelude.{filter}
 use Rattle.lalrpop_norm_tree_names.specs.declared.names.NonterminalString.{NonterminalString}
 use Rattle.lalrpop_norm_tree.specs.declared.items.Condition.{Condition}
-use Rattle.lalrpop_norm_tree.specs.declared.symbol.RepeatOp.TheVariants.{Star, Plus, Question, Times}
+use Rattle.lalrpop_norm_tree.specs.declared.symbol.RepeatOp.TheVariants.{Star}
 use Rattle.lalrpop_norm_tree.specs.Items.{AlternativeData}
-use Rattle.lalrpop_norm_tree.specs.Symbols.{Kind, group, ambiguous_id, terminal, nonterminal, call, repeated, chosen, named, tupled, lookahead, lookbehind, error_terminal, at, Parts, no_parts, part_and}
+use Rattle.lalrpop_norm_tree.specs.Symbols.{Kind, repeated, at, Parts, no_parts, part_and}
 use Rattle.lalrpop_norm_model.specs.Grammars.{ConditionValue, bound_argument, is_true, value_of}
 use Rattle.lalrpop_norm_model.specs.Reading.{read_kind, read_parts, read_all}
 use Rattle.lalrpop_norm_model.specs.MadeRules.{flat_reader}
@@ -13,21 +13,8 @@ use Rattle.lalrpop_norm_model.specs.Replaced.{replaced_kind, all_replaced}
 
 module _ (value : ConditionValue) where
   said_replaced : (c : Condition) (b a d e : ℕ) (k : Kind) → value_of value c (Some (read_kind flat_reader b a (replaced_kind k))) ≡ value_of value c (Some (read_kind flat_reader d e k))
-  said_replaced c b a d e (terminal t) = refl
-  said_replaced c b a d e (group ps) = refl
-  said_replaced c b a d e (ambiguous_id n) = refl
-  said_replaced c b a d e (nonterminal n) = refl
-  said_replaced c b a d e (call n ps) = refl
   said_replaced c b a d e (repeated Star p) = refl
-  said_replaced c b a d e (repeated Plus p) = refl
-  said_replaced c b a d e (repeated Question p) = refl
-  said_replaced c b a d e (repeated (Times n) p) = refl
-  said_replaced c b a d e (chosen p) = refl
-  said_replaced c b a d e (named n p) = refl
-  said_replaced c b a d e (tupled ns p) = refl
-  said_replaced c b a d e lookahead = refl
-  said_replaced c b a d e lookbehind = refl
-  said_replaced c b a d e error_terminal = refl
+  said_replaced c b a d e _ = refl
 
   bound_replaced : (c : Condition) (params : List NonterminalString) (b a d e : ℕ) (ps : Parts) (n : List ℕ) →
       value_of value c (bound_argument params (read_parts flat_reader b a (all_replaced ps)) n) ≡ value_of value c (bound_argument params (read_parts flat_reader d e ps) n)

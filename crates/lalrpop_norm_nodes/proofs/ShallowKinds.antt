@@ -1,32 +1,26 @@
 -- What a macro's arguments are bound to, with what is desugared rewritten in them: symbols and types with these substituted.
-use Rattle.std.proofs.Common.{◌≡◌, ℕ, List, ◌∷◌, ◌++◌, Option, Some, None, option_map, codes, refl, ap, ap₂, ◌∙◌}
-use Rattle.lalrpop_norm_tree_names.specs.Texts.{joined}
-use Rattle.lalrpop_norm_tree.specs.Symbols.{Kind, Part, Parts, group, ambiguous_id, terminal, nonterminal, call, repeated, chosen, named, tupled, lookahead, lookbehind, error_terminal, at, no_parts, part_and}
-use Rattle.lalrpop_norm_tree.specs.SymbolTexts.{kind_text, part_text, part_texts, op_text, name_text, tuple_text}
+use Rattle.std.proofs.Common.{◌≡◌, ℕ, List, Option, Some, None, option_map, refl, ap, ap₂, ◌∙◌}
+use Rattle.lalrpop_norm_tree.specs.Symbols.{Kind, Part, Parts, group, ambiguous_id, nonterminal, call, repeated, chosen, named, tupled, at, no_parts, part_and}
+use Rattle.lalrpop_norm_tree.specs.SymbolTexts.{kind_text}
 use Rattle.lalrpop_norm_tree.specs.Types.{TypeData, TypesData, MaybeType, tuple, slice, nominal, reference, trait_object, of_lifetime, id, of_symbol, function, no_types, type_and, no_type, returns}
-use Rattle.lalrpop_norm_model.specs.MadeRules.{or_name, substituted, kind_substituted, all_substituted, type_of_name, type_substituted, types_substituted, returned_substituted}
+use Rattle.lalrpop_norm_model.specs.MadeRules.{or_name, substituted_leaf, substituted, kind_substituted, all_substituted, type_of_name, type_substituted, types_substituted, returned_substituted}
 use Rattle.lalrpop_norm_model.specs.Replaced.{replaced, replaced_kind, all_replaced}
 use Rattle.lalrpop_norm_nodes.specs.Filled.{filled, filled_kind, all_filled}
-use Rattle.lalrpop_norm_nodes.proofs.TwiceLemmas.{kind_twice}
-use Rattle.lalrpop_norm_nodes.proofs.GivenLemmas.{kind_text_replaced}
+use Rattle.lalrpop_norm_nodes.proofs.TwiceLemmas.{kind_twice, kind_text_replaced}
+use Rattle.lalrpop_norm_nodes.proofs.MapLemmas.{kind_text_kept}
 
 -- ---- a macro's alternatives are copied with no argument bound, which makes an identifier a nonterminal, and then substituted
 
 module _ (f : List ℕ → Option Kind) where
   mutual
     kind_filled_later : (k : Kind) → filled_kind f (kind_substituted (λ n. None) k) ≡ kind_substituted f k
-    kind_filled_later (nonterminal n) = refl
-    kind_filled_later (ambiguous_id n) = refl
-    kind_filled_later (terminal t) = refl
     kind_filled_later (group ps) = ap group (all_filled_later ps)
     kind_filled_later (call n ps) = ap (call n) (all_filled_later ps)
     kind_filled_later (repeated op p) = ap (repeated op) (filled_later p)
     kind_filled_later (chosen p) = ap chosen (filled_later p)
     kind_filled_later (named n p) = ap (named n) (filled_later p)
     kind_filled_later (tupled ns p) = ap (tupled ns) (filled_later p)
-    kind_filled_later lookahead = refl
-    kind_filled_later lookbehind = refl
-    kind_filled_later error_terminal = refl
+    kind_filled_later _ = refl
 
     filled_later : (p : Part) → filled f (substituted (λ n. None) p) ≡ substituted f p
     filled_later (at s k) = ap (at s) (kind_filled_later k)
@@ -44,27 +38,13 @@ module _ (f g : List ℕ → Option Kind) (same : (n : List ℕ) → option_map 
   or_text n None (Some l) e = absurd (cc e)
   or_text n (Some k) None e = absurd (cc e)
 
-  mutual
-    kind_text_bound : (k : Kind) → kind_text (kind_substituted f k) ≡ kind_text (kind_substituted g k)
-    kind_text_bound (nonterminal n) = or_text n (f n) (g n) (same n)
-    kind_text_bound (ambiguous_id n) = or_text n (f n) (g n) (same n)
-    kind_text_bound (group ps) = ap (λ ts. codes "(" ++ joined (codes " ") ts ++ codes ")") (texts_bound ps)
-    kind_text_bound (call n ps) = ap (λ ts. n ++ codes "<" ++ joined (codes ", ") ts ++ codes ">") (texts_bound ps)
-    kind_text_bound (repeated op p) = ap (λ t. t ++ op_text op) (text_bound p)
-    kind_text_bound (chosen p) = ap (λ t. codes "<" ++ t ++ codes ">") (text_bound p)
-    kind_text_bound (named n p) = ap (λ t. name_text n ++ codes ":" ++ t) (text_bound p)
-    kind_text_bound (tupled ns p) = ap (λ t. tuple_text ns ++ codes ":" ++ t) (text_bound p)
-    kind_text_bound (terminal t) = refl
-    kind_text_bound lookahead = refl
-    kind_text_bound lookbehind = refl
-    kind_text_bound error_terminal = refl
+  leaf_bound : (k : Kind) → kind_text (substituted_leaf f k) ≡ kind_text (substituted_leaf g k)
+  leaf_bound (nonterminal n) = or_text n (f n) (g n) (same n)
+  leaf_bound (ambiguous_id n) = or_text n (f n) (g n) (same n)
+  leaf_bound _ = refl
 
-    text_bound : (p : Part) → part_text (substituted f p) ≡ part_text (substituted g p)
-    text_bound (at s k) = kind_text_bound k
-
-    texts_bound : (ps : Parts) → part_texts (all_substituted f ps) ≡ part_texts (all_substituted g ps)
-    texts_bound no_parts = refl
-    texts_bound (part_and p ps) = ap₂ (λ (t : List ℕ) (ts : List (List ℕ)). t ∷ ts) (text_bound p) (texts_bound ps)
+  kind_text_bound : (k : Kind) → kind_text (kind_substituted f k) ≡ kind_text (kind_substituted g k)
+  kind_text_bound k = kind_text_kept (substituted_leaf f) (substituted_leaf g) leaf_bound k
 
 -- ---- what arguments are bound to, and the same replaced
 
@@ -93,10 +73,7 @@ module _ (arg shown : List ℕ → Option Kind) (same : (n : List ℕ) → shown
     kind_replaced_so (chosen p) = ap chosen (replaced_so p)
     kind_replaced_so (named n p) = ap (named n) (replaced_so p)
     kind_replaced_so (tupled ns p) = ap (tupled ns) (replaced_so p)
-    kind_replaced_so (terminal t) = refl
-    kind_replaced_so lookahead = refl
-    kind_replaced_so lookbehind = refl
-    kind_replaced_so error_terminal = refl
+    kind_replaced_so _ = refl
 
     pub replaced_so : (p : Part) → replaced (substituted shown p) ≡ replaced (substituted arg p)
     replaced_so (at s k) = ap (at s) (kind_replaced_so k)

@@ -17,17 +17,15 @@ use Rattle.lalrpop_norm_model.specs.PlainTables.{closed}
 use Rattle.lalrpop_norm_model.specs.Replaced.{replaced_kind}
 use Rattle.lalrpop_norm_nodes.specs.Apart.{nowhere, unplaced_kind, unplaced, all_unplaced}
 use Rattle.lalrpop_norm_nodes.specs.Meeting.{first_with_text, joined_by, after, differs, clash_faults, was_met, were_met}
-use Rattle.lalrpop_norm_nodes.proofs.ApartLemmas.{part_closed}
+use Rattle.lalrpop_norm_nodes.proofs.ApartLemmas.{part_closed, unplaced_twice}
 use Rattle.lalrpop_norm_nodes.proofs.InwardLemmas.{quiet, same_met, stays_after}
 use Rattle.lalrpop_norm_nodes.proofs.MeetingLemmas.{after_both, clash_both}
 use Rattle.lalrpop_norm_nodes.proofs.SamenessLemmas.{closed_text_same}
 use Rattle.lalrpop_norm_nodes.specs.Waits.{parts_replaced}
 use Rattle.lalrpop_norm_nodes.proofs.FirstMet.{has_text, fresh_after, fresh_both}
-use Rattle.lalrpop_norm_nodes.proofs.GivenLemmas.{inside_text}
 use Rattle.lalrpop_norm_nodes.proofs.MeetLemmas.{after_same, clash_same}
-use Rattle.lalrpop_norm_nodes.proofs.ReadLemmas.{unplaced_twice}
 use Rattle.lalrpop_norm_nodes.proofs.ShallowKinds.{replaced_so, all_replaced_so}
-use Rattle.lalrpop_norm_nodes.proofs.TwiceLemmas.{nothing_met}
+use Rattle.lalrpop_norm_nodes.proofs.TwiceLemmas.{nothing_met, inside_text}
 
 -- ---- spans
 
@@ -52,12 +50,7 @@ mutual
   met_bare s t (chosen p) = part_met_bare p
   met_bare s t (named n p) = part_met_bare p
   met_bare s t (tupled ns p) = part_met_bare p
-  met_bare s t lookahead = refl
-  met_bare s t lookbehind = refl
-  met_bare s t (ambiguous_id a) = refl
-  met_bare s t (terminal u) = refl
-  met_bare s t (nonterminal n) = refl
-  met_bare s t error_terminal = refl
+  met_bare s t _ = refl
 
   part_met_bare : (p : Part) → map unplaced (met (unplaced p)) ≡ map unplaced (met p)
   part_met_bare (at s k) = met_bare nowhere s k
@@ -222,10 +215,7 @@ module _ (names : List ℕ → Bool) (start : List Part) where
       kind_unplaced_so (chosen p) = ap chosen (unplaced_so p)
       kind_unplaced_so (named n p) = ap (named n) (unplaced_so p)
       kind_unplaced_so (tupled ns p) = ap (tupled ns) (unplaced_so p)
-      kind_unplaced_so (terminal t) = refl
-      kind_unplaced_so lookahead = refl
-      kind_unplaced_so lookbehind = refl
-      kind_unplaced_so error_terminal = refl
+      kind_unplaced_so _ = refl
 
       unplaced_so : (p : Part) → unplaced (substituted whole p) ≡ unplaced (substituted arg p)
       unplaced_so (at s k) = ap (at nowhere) (kind_unplaced_so k)

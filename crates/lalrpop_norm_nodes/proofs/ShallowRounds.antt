@@ -5,7 +5,7 @@ use Rattle.std.specs.Prelude.{not, ◌||◌, ◌&&◌}
 use Rattle.std.specs.List.{flat_map}
 use Rattle.std.proofs.lemmas.Bool.{and_parts}
 use Rattle.std.proofs.lemmas.List.{map-append}
-use Rattle.lalrpop_norm_tree.specs.Symbols.{Kind, Part, Parts, group, ambiguous_id, terminal, nonterminal, call, repeated, chosen, named, tupled, lookahead, lookbehind, error_terminal, at, no_parts, part_and}
+use Rattle.lalrpop_norm_tree.specs.Symbols.{Kind, Part, Parts, group, call, repeated, chosen, named, tupled, lookahead, lookbehind, at, no_parts, part_and}
 use Rattle.lalrpop_norm_tree.specs.SymbolTexts.{part_text, kind_text}
 use Rattle.lalrpop_norm_tree.specs.Items.{AlternativeData, RuleData}
 use Rattle.lalrpop_norm_theory.specs.Rounds.{In}
@@ -87,10 +87,7 @@ module _ (names : List ℕ → Bool) (seen : List Part) where
     part_inward (at s (tupled ns p)) = part_inward p
     part_inward (at s lookahead) = inward_self [] (at s lookahead) refl (λ q i h. absurd i)
     part_inward (at s lookbehind) = inward_self [] (at s lookbehind) refl (λ q i h. absurd i)
-    part_inward (at s (ambiguous_id a)) = λ q i h. absurd i
-    part_inward (at s (terminal t)) = λ q i h. absurd i
-    part_inward (at s (nonterminal n)) = λ q i h. absurd i
-    part_inward (at s error_terminal) = λ q i h. absurd i
+    part_inward (at s _) = λ q i h. absurd i
 
     pub all_inward : (ps : Parts) → IsInward (all_met ps)
     all_inward no_parts = λ q i h. absurd i

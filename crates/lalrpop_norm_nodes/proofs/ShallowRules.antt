@@ -14,11 +14,10 @@ use Rattle.lalrpop_norm_model.specs.MadeRules.{inline_at, coded, type_of_kind, b
 use Rattle.lalrpop_norm_model.specs.PlainRules.{replaced_rule}
 use Rattle.lalrpop_norm_model.specs.Replaced.{replaced_kind, all_replaced}
 use Rattle.lalrpop_norm_nodes.specs.Apart.{unplaced_kind, all_unplaced}
-use Rattle.lalrpop_norm_nodes.proofs.GivenLemmas.{inside_text}
 use Rattle.lalrpop_norm_nodes.proofs.ReplacedSources.{types_of_replaced, code_of_replaced}
 use Rattle.lalrpop_norm_nodes.proofs.ShallowConditions.{kept_in, kept_replaced}
 use Rattle.lalrpop_norm_nodes.proofs.ShallowKinds.{type_so}
-use Rattle.lalrpop_norm_nodes.proofs.TwiceLemmas.{kind_twice}
+use Rattle.lalrpop_norm_nodes.proofs.TwiceLemmas.{kind_twice, inside_text}
 
 -- ---- what arguments are bound to
 

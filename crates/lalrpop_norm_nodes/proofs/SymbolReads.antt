@@ -9,40 +9,23 @@ use Rattle.lalrpop_norm_tree.specs.declared.symbol.RepeatSymbol.{RepeatSymbol}
 use Rattle.lalrpop_norm_tree.specs.declared.symbol.Symbol.{Symbol}
 use Rattle.lalrpop_norm_tree.specs.Symbols.{Part, at, kind_view, symbol_view}
 use Rattle.lalrpop_norm_model.specs.PlainRules.{met}
-use Rattle.lalrpop_norm_nodes.specs.Apart.{unplaced_kind}
 use Rattle.lalrpop_norm_nodes.specs.declared.given.Environment.{Environment}
 use Rattle.lalrpop_norm_nodes.specs.declared.given.Given.{Given}
 use Rattle.lalrpop_norm_nodes.specs.declared.table.Table.{Table}
-use Rattle.lalrpop_norm_nodes.specs.Given.{given_to, AreGiven, read_whole, kind_whole, read_shown}
+use Rattle.lalrpop_norm_nodes.specs.Given.{given_to, AreGiven, read_whole, kind_whole}
 use Rattle.lalrpop_norm_nodes.specs.Meeting.{met_inside, own, after, clash_faults}
-use Rattle.lalrpop_norm_nodes.specs.Tables.{wholes_in, is_declared_in, seen_in, IsNodeTable, IsCounted, TableMeets, refused_in}
-use Rattle.lalrpop_norm_nodes.specs.Waits.{shown_met, LeavesWaiting}
-use Rattle.lalrpop_norm_nodes.specs.Wholes.{one_symbol, StandsFor}
-use Rattle.lalrpop_norm_nodes.proofs.MeetLemmas.{split_at}
+use Rattle.lalrpop_norm_nodes.specs.Reads.{NumberRead, SymbolRead, RepeatRead}
+use Rattle.lalrpop_norm_nodes.specs.Tables.{wholes_in, is_declared_in, seen_in, IsNodeTable, IsCounted, refused_in}
+use Rattle.lalrpop_norm_nodes.proofs.SymbolLemmas.{split_at}
 use Rattle.lalrpop_norm_nodes.proofs.MeetingLemmas.{clash_both, err_refuses}
 use Rattle.lalrpop_norm_nodes.proofs.ReadLemmas.{bound_met, bound_value, bound_number, read_at}
 use Rattle.lalrpop_norm_nodes.proofs.WaitReads.{bound_waits}
-
--- these were reached, and these are on the worklist for them
-abbrev pub NumberRead : Result ℕ NormFailure → Table → Table → List Part → List Part → Type 0 → (ℕ → Type 0) → Type 0
-NumberRead r a b xs ys Now Is = record {
-  refuses : Refuses r (refused_in a xs);
-  meets : OnOk r (TableMeets a b xs);
-  counted : OnOk r (IsCounted b);
-  waits : OnOk r (LeavesWaiting a b ys);
-  value : OnOk r Now;
-  number : IfOk r Is;
-}
 
 -- an error is passed on
 pub refused_number : (r : Result ℕ NormFailure) (a b : Table) (xs ys : List Part) (Now : Type 0) (Is : ℕ → Type 0) (f : NormFailure) → IsErrAnd r (λ g. g ≡ f) → Refuses r (refused_in a xs) →
     NumberRead r a b xs ys Now Is
 refused_number (Ok n) a b xs ys Now Is f from h = absurd from
 refused_number (Err g) a b xs ys Now Is f from h = record { refuses = h; meets = tt; counted = tt; waits = tt; value = tt; number = tt }
-
-abbrev pub SymbolRead : Result ℕ NormFailure → Table → Table → Environment → Symbol → Part → Type 0
-SymbolRead r a b e s now = NumberRead r a b (met (read_whole (wholes_in a) e (symbol_view s))) (shown_met e (symbol_view s)) (now ≡ read_shown e (symbol_view s))
-    (λ i. StandsFor (wholes_in b) i (one_symbol (unplaced_kind (kind_whole (wholes_in a) e (kind_view s.kind)))))
 
 -- the same of the symbol that is held
 pub symbol_as : (r : Result ℕ NormFailure) (a b : Table) (e : Environment) (s t : Symbol) (now : Part) → s ≡ t → SymbolRead r a b e s now → SymbolRead r a b e t now
@@ -74,18 +57,6 @@ bound_read i a e s now g table made given is put same =
       value = put ∙ bound_value (wholes_in a) e s g given is;
       number = ap (slice_get (wholes_in a)) same ∙ bound_number a e (kind_view s.kind) g table given is;
     }
-
--- what is repeated, with how often
-abbrev pub RepeatRead : Result ℕ NormFailure → Table → Table → Environment → RepeatSymbol → RepeatOp → Part → Type 0
-RepeatRead r a b e x o now = record {
-  refuses : Refuses r (refused_in a (met (read_whole (wholes_in a) e (symbol_view x.symbol))));
-  meets : OnOk r (TableMeets a b (met (read_whole (wholes_in a) e (symbol_view x.symbol))));
-  counted : OnOk r (IsCounted b);
-  op : OnOk r (o ≡ x.op);
-  waits : OnOk r (LeavesWaiting a b (shown_met e (symbol_view x.symbol)));
-  value : OnOk r (now ≡ read_shown e (symbol_view x.symbol));
-  number : IfOk r (λ i. StandsFor (wholes_in b) i (one_symbol (unplaced_kind (kind_whole (wholes_in a) e (kind_view x.symbol.kind)))));
-}
 
 pub repeat_read : (r : Result ℕ NormFailure) (a b : Table) (e : Environment) (x : RepeatSymbol) (o : RepeatOp) (now : Part) → o ≡ x.op → SymbolRead r a b e x.symbol now →
     RepeatRead r a b e x o now

@@ -5,12 +5,13 @@ use Rattle.std.specs.List.{flat_map}
 use Rattle.std.proofs.lemmas.Bool.{and_from}
 use Rattle.std.proofs.lemmas.List.{map-append, length-append, length-map}
 use Rattle.std.proofs.lemmas.Option.{slice_get-map}
-use Rattle.lalrpop_norm_tree.specs.Symbols.{Kind, Part, group, ambiguous_id, terminal, nonterminal, call, repeated, chosen, named, tupled, lookahead, lookbehind, error_terminal, at, symbol_view}
+use Rattle.lalrpop_norm_tree.specs.Symbols.{Kind, Part, at, symbol_view}
 use Rattle.lalrpop_norm_tree.specs.SymbolTexts.{part_text}
 use Rattle.lalrpop_norm_model.specs.PlainRules.{same_apart_from_spans}
 use Rattle.lalrpop_norm_theory.proofs.BoolLemmas.{both_false}
+use Rattle.lalrpop_norm_model.specs.Replaced.{is_desugared}
 use Rattle.lalrpop_norm_nodes.specs.Apart.{nowhere, unplaced}
-use Rattle.lalrpop_norm_nodes.specs.Meeting.{own, first_with_text, was_met, were_met, has_key}
+use Rattle.lalrpop_norm_nodes.specs.Meeting.{first_with_text, was_met, were_met, has_key}
 use Rattle.lalrpop_norm_nodes.proofs.SamenessLemmas.{closed_same}
 use Rattle.lalrpop_norm_nodes.proofs.InwardLemmas.{met_by, all_stay, were_both}
 use Rattle.lalrpop_norm_nodes.proofs.FirstLemmas.{first_at}
@@ -205,21 +206,11 @@ few_made : (w : Whole) → length (own_in w) ≤ 1
 few_made (symbols ps) = omega arith
 few_made (one_pattern p) = omega arith
 few_made (patterns ps) = omega arith
-few_made (one_symbol k) = by k
+few_made (one_symbol k) = by (is_desugared k)
   where
-    by : (k : Kind) → length (own nowhere k) ≤ 1
-    by (group ps) = omega arith
-    by (call n ps) = omega arith
-    by (repeated op q) = omega arith
-    by lookahead = omega arith
-    by lookbehind = omega arith
-    by (chosen q) = omega arith
-    by (named n q) = omega arith
-    by (tupled ns q) = omega arith
-    by (ambiguous_id a) = omega arith
-    by (terminal u) = omega arith
-    by (nonterminal n) = omega arith
-    by error_terminal = omega arith
+    by : (b : Bool) → length (cond b (at nowhere k ∷ []) []) ≤ 1
+    by true = omega arith
+    by false = omega arith
 
 few : (ws : List Whole) → length (flat_map own_in ws) ≤ length ws
 few [] = omega arith

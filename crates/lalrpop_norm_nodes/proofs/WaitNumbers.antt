@@ -1,11 +1,11 @@
 -- What the ids of symbols on the worklist stand for.
-use Rattle.std.proofs.Common.{◌≡◌, ℕ, zero, suc, List, [], ◌∷◌, ◌++◌, map, Option, Some, None, option_and_then, slice_get, refl, ap, ap₂, ◌∙◌}
+use Rattle.std.proofs.Common.{◌≡◌, ℕ, zero, suc, Bool, true, false, cond, List, [], ◌∷◌, ◌++◌, map, Option, Some, None, option_and_then, slice_get, refl, ap, ap₂, ◌∙◌}
 use Rattle.std.specs.List.{flat_map}
 use Rattle.std.proofs.lemmas.List.{map-append}
-use Rattle.lalrpop_norm_tree.specs.Symbols.{Kind, Part, at, group, ambiguous_id, terminal, nonterminal, call, repeated, chosen, named, tupled, lookahead, lookbehind, error_terminal, symbol_view}
+use Rattle.lalrpop_norm_tree.specs.Symbols.{Kind, Part, at, symbol_view}
 use Rattle.lalrpop_norm_tree.specs.SymbolTexts.{part_text}
+use Rattle.lalrpop_norm_model.specs.Replaced.{is_desugared}
 use Rattle.lalrpop_norm_nodes.specs.Apart.{nowhere, unplaced, unplaced_kind}
-use Rattle.lalrpop_norm_nodes.specs.Meeting.{own}
 use Rattle.lalrpop_norm_nodes.specs.declared.table.Table.{Table}
 use Rattle.lalrpop_norm_nodes.specs.declared.table.Waiting.{Waiting}
 use Rattle.lalrpop_norm_nodes.specs.Wholes.{Whole, one_symbol, symbols, one_pattern, patterns, part_at, IsKind, StandsFor, Grows}
@@ -20,21 +20,11 @@ own_bare : (w : Whole) → IsBare w → map unplaced (own_in w) ≡ own_in w
 own_bare (symbols ps) h = refl
 own_bare (one_pattern p) h = refl
 own_bare (patterns ps) h = refl
-own_bare (one_symbol k) h = by k h
+own_bare (one_symbol k) h = by (is_desugared k)
   where
-    by : (k : Kind) → unplaced_kind k ≡ k → map unplaced (own nowhere k) ≡ own nowhere k
-    by (group ps) e = ap (λ (l : Kind). at nowhere l ∷ []) e
-    by (call n ps) e = ap (λ (l : Kind). at nowhere l ∷ []) e
-    by (repeated op q) e = ap (λ (l : Kind). at nowhere l ∷ []) e
-    by lookahead e = refl
-    by lookbehind e = refl
-    by (chosen q) e = refl
-    by (named n q) e = refl
-    by (tupled ns q) e = refl
-    by (ambiguous_id a) e = refl
-    by (terminal t) e = refl
-    by (nonterminal n) e = refl
-    by error_terminal e = refl
+    by : (b : Bool) → map unplaced (cond b (at nowhere k ∷ []) []) ≡ cond b (at nowhere k ∷ []) []
+    by true = ap (λ (l : Kind). at nowhere l ∷ []) h
+    by false = refl
 
 all_bare : (ws : List Whole) → ((i : ℕ) (w : Whole) → StandsFor ws i w → IsBare w) → map unplaced (flat_map own_in ws) ≡ flat_map own_in ws
 all_bare [] h = refl

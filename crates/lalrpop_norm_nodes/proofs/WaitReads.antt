@@ -1,10 +1,10 @@
 -- What is added to the worklist where a symbol is read.
-use Rattle.std.proofs.Common.{◌≡◌, ℕ, ◌+◌, ◌<◌, length, take, get_or, List, [], ◌∷◌, ◌++◌, true, false, map, Option, Some, None, is_some, Bool, true≢false, refl, sym, ap, ◌∙◌, subst}
+use Rattle.std.proofs.Common.{◌≡◌, ℕ, ◌+◌, ◌<◌, length, take, get_or, List, [], ◌∷◌, ◌++◌, true, false, map, Option, Some, None, is_some, Bool, cond, true≢false, refl, sym, ap, ◌∙◌, subst}
 use Rattle.std.specs.List.{flat_map}
 use Rattle.std.proofs.lemmas.List.{map-append}
 use Rattle.lalrpop_norm_tree_names.specs.declared.names.Span.{Span}
 use Rattle.lalrpop_norm_tree.specs.declared.symbol.Symbol.{Symbol}
-use Rattle.lalrpop_norm_tree.specs.Symbols.{Kind, Part, parts_of, group, ambiguous_id, terminal, nonterminal, call, repeated, chosen, named, tupled, lookahead, lookbehind, error_terminal, at, kind_view, symbol_view}
+use Rattle.lalrpop_norm_tree.specs.Symbols.{Kind, Part, parts_of, group, nonterminal, at, kind_view, symbol_view}
 use Rattle.lalrpop_norm_tree.proofs.SymbolViews.{seen_at}
 use Rattle.lalrpop_norm_tree.specs.SymbolTexts.{part_text, kind_text}
 use Rattle.lalrpop_norm_model.specs.PlainRules.{met, all_met}
@@ -20,7 +20,7 @@ use Rattle.lalrpop_norm_nodes.specs.Tables.{wholes_in, own_at, own_text_in, IsNo
 use Rattle.lalrpop_norm_nodes.specs.Wholes.{Whole, one_symbol, symbols, one_pattern, patterns}
 use Rattle.lalrpop_norm_nodes.specs.Waits.{parts_replaced, shown_met, LeavesWaiting}
 use Rattle.lalrpop_norm_nodes.proofs.InPlace.{met_more}
-use Rattle.lalrpop_norm_nodes.proofs.MeetLemmas.{split_at}
+use Rattle.lalrpop_norm_nodes.proofs.SymbolLemmas.{split_at, desugared, own_if}
 use Rattle.lalrpop_norm_nodes.proofs.ReadLemmas.{bound_is}
 use Rattle.lalrpop_norm_nodes.proofs.TwiceLemmas.{nothing_met}
 use Rattle.lalrpop_norm_nodes.proofs.WaitLemmas.{waits_both, waits_nothing, waits_plain}
@@ -38,17 +38,7 @@ bound_waits t e s g given f =
 
 own_parts : (s : Span) (k : Kind) → map parts_replaced (own s k) ≡ own s (inside_replaced k)
 own_parts s (group ps) = refl
-own_parts s (call n ps) = refl
-own_parts s (repeated op p) = refl
-own_parts s (chosen p) = refl
-own_parts s (named n p) = refl
-own_parts s (tupled ns p) = refl
-own_parts s (ambiguous_id a) = refl
-own_parts s (terminal t) = refl
-own_parts s (nonterminal n) = refl
-own_parts s lookahead = refl
-own_parts s lookbehind = refl
-own_parts s error_terminal = refl
+own_parts s _ = refl
 
 -- a symbol that is read is on the worklist behind what is inside it
 pub read_waits : (a b d : Table) (e : Environment) (s : Symbol) → LeavesWaiting a b (map parts_replaced (met_inside (filled_kind (shown_for e) (kind_view s.kind)))) →
@@ -66,39 +56,14 @@ read_waits a b d e s h g =
 pub kept_waits : (a b : Table) (s : Symbol) → is_some (own_text (at nowhere (kind_view s.kind))) ≡ false → IsNodeTable a → TableMeets a b [] → b.waiting ≡ a.waiting →
     LeavesWaiting a b (met_itself (symbol_view s))
 kept_waits a b s none table h same =
-    subst (λ (xs : List Part). LeavesWaiting a b xs) (sym (ap met_itself (seen_at s) ∙ by (kind_view s.kind) none)) (waits_plain a b table h same)
-  where
-    by : (k : Kind) → is_some (own_text (at nowhere k)) ≡ false → own s.span k ≡ []
-    by (group ps) f = absurd (cc f)
-    by (call n ps) f = absurd (cc f)
-    by (repeated op q) f = absurd (cc f)
-    by lookahead f = absurd (cc f)
-    by lookbehind f = absurd (cc f)
-    by (chosen q) f = refl
-    by (named n q) f = refl
-    by (tupled ns q) f = refl
-    by (ambiguous_id a) f = refl
-    by (terminal t) f = refl
-    by (nonterminal n) f = refl
-    by error_terminal f = refl
+    subst (λ (xs : List Part). LeavesWaiting a b xs) (sym (ap met_itself (seen_at s) ∙ own_if s.span (kind_view s.kind) false (desugared nowhere (kind_view s.kind) false none))) (waits_plain a b table h same)
 
 -- one that is does
 pub made_waits_itself : (a b : Table) (p : Part) → is_some (own_text p) ≡ true → LeavesWaiting a b (p ∷ []) → LeavesWaiting a b (met_itself p)
 made_waits_itself a b p some h = subst (λ (xs : List Part). LeavesWaiting a b xs) (sym (itself p some)) h
   where
     itself : (p : Part) → is_some (own_text p) ≡ true → met_itself p ≡ p ∷ []
-    itself (at s (group ps)) f = refl
-    itself (at s (call n ps)) f = refl
-    itself (at s (repeated op q)) f = refl
-    itself (at s lookahead) f = refl
-    itself (at s lookbehind) f = refl
-    itself (at s (chosen q)) f = absurd (cc f)
-    itself (at s (named n q)) f = absurd (cc f)
-    itself (at s (tupled ns q)) f = absurd (cc f)
-    itself (at s (ambiguous_id a)) f = absurd (cc f)
-    itself (at s (terminal t)) f = absurd (cc f)
-    itself (at s (nonterminal n)) f = absurd (cc f)
-    itself (at s error_terminal) f = absurd (cc f)
+    itself (at s k) f = own_if s k true (desugared s k true f)
 
 -- a symbol rewritten to the nonterminal of its text
 pub made_topped : (s : Symbol) → is_some (own_text (symbol_view s)) ≡ true → at s.span (nonterminal (part_text (symbol_view s))) ≡ topped (symbol_view s)
@@ -107,36 +72,14 @@ made_topped s some =
     ∙ by (kind_view s.kind) (ap (λ (p : Part). is_some (own_text p)) (sym (seen_at s)) ∙ some) ∙ ap topped (sym (seen_at s))
   where
     by : (k : Kind) → is_some (own_text (at s.span k)) ≡ true → at s.span (nonterminal (kind_text k)) ≡ topped (at s.span k)
-    by (group ps) f = refl
-    by (call n ps) f = refl
-    by (repeated op q) f = refl
-    by lookahead f = refl
-    by lookbehind f = refl
-    by (chosen q) f = absurd (cc f)
-    by (named n q) f = absurd (cc f)
-    by (tupled ns q) f = absurd (cc f)
-    by (ambiguous_id a) f = absurd (cc f)
-    by (terminal t) f = absurd (cc f)
-    by (nonterminal n) f = absurd (cc f)
-    by error_terminal f = absurd (cc f)
+    by k f = ap (λ b. at s.span (cond b (nonterminal (kind_text k)) k)) (sym (desugared s.span k true f))
 
 -- and its text
 pub own_is_text : (p : Part) (o : Option (List ℕ)) → is_some (own_text p) ≡ true → o ≡ own_text p → o ≡ Some (part_text p)
 own_is_text p o some e = e ∙ by p some
   where
     by : (p : Part) → is_some (own_text p) ≡ true → own_text p ≡ Some (part_text p)
-    by (at s (group ps)) f = refl
-    by (at s (call n ps)) f = refl
-    by (at s (repeated op q)) f = refl
-    by (at s lookahead) f = refl
-    by (at s lookbehind) f = refl
-    by (at s (chosen q)) f = absurd (cc f)
-    by (at s (named n q)) f = absurd (cc f)
-    by (at s (tupled ns q)) f = absurd (cc f)
-    by (at s (ambiguous_id a)) f = absurd (cc f)
-    by (at s (terminal t)) f = absurd (cc f)
-    by (at s (nonterminal n)) f = absurd (cc f)
-    by (at s error_terminal) f = absurd (cc f)
+    by (at s k) f = ap (λ b. cond b (Some (kind_text k)) None) (desugared s k true f)
 
 pub shown_met_one_by_one : (f : List ℕ → Option Kind) (ps : List Part) →
     map parts_replaced (all_met (all_filled f (parts_of ps))) ≡ flat_map (λ p. map parts_replaced (met (filled f p))) ps
@@ -151,22 +94,8 @@ partly_waits m vs i w l e a b c h k = rw (met_more m vs i w l e) (waits_both a b
 
 -- ---- whether a symbol is desugared, by its kind
 
-own_placed : (s : Span) (k : Kind) → own_text (at s k) ≡ own_text (at nowhere k)
-own_placed s (group ps) = refl
-own_placed s (call n ps) = refl
-own_placed s (repeated op q) = refl
-own_placed s lookahead = refl
-own_placed s lookbehind = refl
-own_placed s (chosen q) = refl
-own_placed s (named n q) = refl
-own_placed s (tupled ns q) = refl
-own_placed s (ambiguous_id a) = refl
-own_placed s (terminal t) = refl
-own_placed s (nonterminal n) = refl
-own_placed s error_terminal = refl
-
 pub own_by_kind : (s : Symbol) (b : Bool) → b ≡ is_some (own_text (at nowhere (kind_view s.kind))) → is_some (own_text (symbol_view s)) ≡ b
-own_by_kind s b e = ap (λ (p : Part). is_some (own_text p)) (seen_at s) ∙ ap is_some (own_placed s.span (kind_view s.kind)) ∙ sym e
+own_by_kind s b e = ap (λ (p : Part). is_some (own_text p)) (seen_at s) ∙ sym e
 
 pub no_text : (o p : Option (List ℕ)) → o ≡ p → is_some p ≡ false → o ≡ None
 no_text o None e f = e
@@ -177,32 +106,10 @@ pub own_none : (s : Span) (w : Whole) → own_text_in w ≡ None → own_at s w 
 own_none s (symbols ps) e = refl
 own_none s (one_pattern p) e = refl
 own_none s (patterns ps) e = refl
-own_none s (one_symbol (group ps)) e = absurd (cc e)
-own_none s (one_symbol (call n ps)) e = absurd (cc e)
-own_none s (one_symbol (repeated op q)) e = absurd (cc e)
-own_none s (one_symbol lookahead) e = absurd (cc e)
-own_none s (one_symbol lookbehind) e = absurd (cc e)
-own_none s (one_symbol (chosen q)) e = refl
-own_none s (one_symbol (named n q)) e = refl
-own_none s (one_symbol (tupled ns q)) e = refl
-own_none s (one_symbol (ambiguous_id a)) e = refl
-own_none s (one_symbol (terminal t)) e = refl
-own_none s (one_symbol (nonterminal n)) e = refl
-own_none s (one_symbol error_terminal) e = refl
+own_none s (one_symbol k) e = own_if s k false (desugared nowhere k false (ap is_some e))
 
 pub same_topped : (s : Symbol) → is_some (own_text (symbol_view s)) ≡ false → symbol_view s ≡ topped (symbol_view s)
 same_topped s none = by (symbol_view s) none
   where
     by : (p : Part) → is_some (own_text p) ≡ false → p ≡ topped p
-    by (at s (group ps)) f = absurd (true≢false f)
-    by (at s (call n ps)) f = absurd (true≢false f)
-    by (at s (repeated op q)) f = absurd (true≢false f)
-    by (at s lookahead) f = absurd (true≢false f)
-    by (at s lookbehind) f = absurd (true≢false f)
-    by (at s (chosen q)) f = refl
-    by (at s (named n q)) f = refl
-    by (at s (tupled ns q)) f = refl
-    by (at s (ambiguous_id a)) f = refl
-    by (at s (terminal t)) f = refl
-    by (at s (nonterminal n)) f = refl
-    by (at s error_terminal) f = refl
+    by (at s k) f = ap (λ b. at s (cond b (nonterminal (kind_text k)) k)) (sym (desugared s k false f))

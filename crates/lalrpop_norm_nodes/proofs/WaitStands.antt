@@ -1,13 +1,13 @@
 -- The ids of the symbols on the worklist stand for these.
 use Rattle.std.proofs.Common.{◌≡◌, inl, inr, ℕ, suc, List, [], ◌∷◌, ◌++◌, true, map, Option, Some, None, slice_get, option_and_then, refl, sym, ap, ap₂, ◌∙◌}
 use Rattle.std.proofs.lemmas.Bool.{and_parts}
-use Rattle.lalrpop_norm_tree.specs.Symbols.{Kind, Part, Parts, group, ambiguous_id, terminal, nonterminal, call, repeated, chosen, named, tupled, lookahead, lookbehind, error_terminal, at, no_parts, part_and, kind_view, symbol_view}
+use Rattle.lalrpop_norm_tree.specs.Symbols.{Kind, Part, at, kind_view, symbol_view}
 use Rattle.lalrpop_norm_tree.specs.SymbolTexts.{part_text}
 use Rattle.lalrpop_norm_tree.proofs.SymbolViews.{seen_at}
 use Rattle.lalrpop_norm_theory.specs.Rounds.{In}
 use Rattle.lalrpop_norm_model.specs.MadeRules.{kind_of}
-use Rattle.lalrpop_norm_model.specs.Replaced.{replaced, replaced_kind, all_replaced}
-use Rattle.lalrpop_norm_nodes.specs.Apart.{nowhere, unplaced_kind, unplaced, all_unplaced}
+use Rattle.lalrpop_norm_model.specs.Replaced.{replaced}
+use Rattle.lalrpop_norm_nodes.specs.Apart.{nowhere, unplaced_kind, unplaced}
 use Rattle.lalrpop_norm_nodes.specs.Meeting.{first_with_text, was_met, were_met}
 use Rattle.lalrpop_norm_nodes.specs.declared.table.Table.{Table}
 use Rattle.lalrpop_norm_nodes.specs.declared.table.Waiting.{Waiting}
@@ -16,64 +16,12 @@ use Rattle.lalrpop_norm_nodes.specs.NodeParts.{IsWaiting, AreWaiting}
 use Rattle.lalrpop_norm_nodes.specs.Tables.{wholes_in, seen_in, is_declared_in, own_text_in, inner_of, own_in, IsNumbered, AreNumbered, IsNodeTable}
 use Rattle.lalrpop_norm_nodes.specs.Waits.{parts_replaced}
 use Rattle.lalrpop_norm_nodes.specs.Wholes.{Whole, one_symbol, kind_at, as_kind, StandsFor}
-use Rattle.lalrpop_norm_nodes.proofs.MeetLemmas.{kind_text_unplaced, were_right}
+use Rattle.lalrpop_norm_nodes.proofs.MeetLemmas.{were_right}
 use Rattle.lalrpop_norm_nodes.proofs.RowItems.{is_kind}
 use Rattle.lalrpop_norm_nodes.proofs.ShallowMeetings.{parts_text}
 use Rattle.lalrpop_norm_nodes.proofs.ShallowRounds.{text_tells}
-use Rattle.lalrpop_norm_nodes.proofs.TwiceLemmas.{replaced_twice, all_twice}
+use Rattle.lalrpop_norm_nodes.proofs.TwiceLemmas.{inside_bare, inside_twice}
 use Rattle.lalrpop_norm_nodes.proofs.WholeLemmas.{met_split, Made, one_made}
-
--- ---- parts that are replaced, with their spans and without
-
-mutual
-  replaced_bare : (p : Part) → unplaced (replaced (unplaced p)) ≡ unplaced (replaced p)
-  replaced_bare (at s k) = ap (at nowhere) (kind_bare k)
-
-  kind_bare : (k : Kind) → unplaced_kind (replaced_kind (unplaced_kind k)) ≡ unplaced_kind (replaced_kind k)
-  kind_bare (group ps) = ap nonterminal (kind_text_unplaced (group ps))
-  kind_bare (call n ps) = ap nonterminal (kind_text_unplaced (call n ps))
-  kind_bare (repeated op p) = ap nonterminal (kind_text_unplaced (repeated op p))
-  kind_bare (chosen p) = ap chosen (replaced_bare p)
-  kind_bare (named n p) = ap (named n) (replaced_bare p)
-  kind_bare (tupled ns p) = ap (tupled ns) (replaced_bare p)
-  kind_bare lookahead = refl
-  kind_bare lookbehind = refl
-  kind_bare (ambiguous_id a) = refl
-  kind_bare (terminal t) = refl
-  kind_bare (nonterminal n) = refl
-  kind_bare error_terminal = refl
-
-all_bare : (ps : Parts) → all_unplaced (all_replaced (all_unplaced ps)) ≡ all_unplaced (all_replaced ps)
-all_bare no_parts = refl
-all_bare (part_and p ps) = ap₂ part_and (replaced_bare p) (all_bare ps)
-
-inside_bare : (k : Kind) → unplaced_kind (inside_replaced (unplaced_kind k)) ≡ unplaced_kind (inside_replaced k)
-inside_bare (group ps) = ap group (all_bare ps)
-inside_bare (call n ps) = ap (call n) (all_bare ps)
-inside_bare (repeated op p) = ap (repeated op) (replaced_bare p)
-inside_bare (chosen p) = ap chosen (replaced_bare p)
-inside_bare (named n p) = ap (named n) (replaced_bare p)
-inside_bare (tupled ns p) = ap (tupled ns) (replaced_bare p)
-inside_bare lookahead = refl
-inside_bare lookbehind = refl
-inside_bare (ambiguous_id a) = refl
-inside_bare (terminal t) = refl
-inside_bare (nonterminal n) = refl
-inside_bare error_terminal = refl
-
-inside_twice : (k : Kind) → inside_replaced (inside_replaced k) ≡ inside_replaced k
-inside_twice (group ps) = ap group (all_twice ps)
-inside_twice (call n ps) = ap (call n) (all_twice ps)
-inside_twice (repeated op p) = ap (repeated op) (replaced_twice p)
-inside_twice (chosen p) = ap chosen (replaced_twice p)
-inside_twice (named n p) = ap (named n) (replaced_twice p)
-inside_twice (tupled ns p) = ap (tupled ns) (replaced_twice p)
-inside_twice lookahead = refl
-inside_twice lookbehind = refl
-inside_twice (ambiguous_id a) = refl
-inside_twice (terminal t) = refl
-inside_twice (nonterminal n) = refl
-inside_twice error_terminal = refl
 
 kind_of_parts : (p : Part) → kind_of (parts_replaced p) ≡ inside_replaced (kind_of p)
 kind_of_parts (at s k) = refl

@@ -1,5 +1,5 @@
 -- What the whole of a node reaches, its spans, and its text.
-use Rattle.std.proofs.Common.{◌≡◌, ℕ, suc, Bool, true, false, cond, List, [], ◌∷◌, ◌++◌, map, Some, None, bytes_eq, refl, sym, ap, ap₂, ◌∙◌, subst, append-nil, append_assoc}
+use Rattle.std.proofs.Common.{◌≡◌, ℕ, suc, Bool, true, false, cond, List, [], ◌∷◌, ◌++◌, map, Some, None, is_some, bytes_eq, refl, sym, ap, ap₂, ◌∙◌, subst, append-nil, append_assoc}
 use Rattle.std.specs.List.{flat_map}
 use Rattle.std.proofs.lemmas.Grind.{flat_map-append}
 use Rattle.std.proofs.lemmas.List.{map-append}
@@ -8,9 +8,11 @@ use Rattle.lalrpop_norm_tree.specs.declared.symbol.RepeatOp.TheVariants.{Star, P
 use Rattle.lalrpop_norm_tree.specs.Symbols.{Kind, Part, Parts, argument_patterns_of, part_and, parts_of, group, ambiguous_id, terminal, nonterminal, call, repeated, chosen, named, tupled, lookahead, lookbehind, error_terminal, at}
 use Rattle.lalrpop_norm_tree.specs.SymbolTexts.{kind_text}
 use Rattle.lalrpop_norm_model.specs.PlainRules.{met, all_met}
+use Rattle.lalrpop_norm_model.specs.Replaced.{is_desugared}
 use Rattle.lalrpop_norm_nodes.specs.Apart.{nowhere, unplaced, all_unplaced}
 use Rattle.lalrpop_norm_nodes.specs.Meeting.{own, own_text, first_with_text, were_met}
 use Rattle.lalrpop_norm_nodes.proofs.InwardLemmas.{were_both}
+use Rattle.lalrpop_norm_nodes.proofs.SymbolLemmas.{split_at, desugared, own_if}
 use Rattle.lalrpop_norm_nodes.specs.declared.node.Node.{Node}
 use Rattle.lalrpop_norm_nodes.specs.declared.node.Node.TheVariants as node
 use Rattle.lalrpop_norm_nodes.specs.declared.node.Leaf.TheVariants as leaf
@@ -20,7 +22,6 @@ use Rattle.lalrpop_norm_nodes.specs.declared.node.NamedUnary.TheVariants as name
 use Rattle.lalrpop_norm_nodes.specs.declared.node.Binary.TheVariants as binary
 use Rattle.lalrpop_norm_nodes.specs.Wholes.{Whole, one_symbol, symbols, one_pattern, patterns, kind_at, part_at, symbols_at, patterns_at, built, Fits, StandsFor}
 use Rattle.lalrpop_norm_nodes.specs.Tables.{own_at, own_in, own_text_in, met_of, inner_of, IsBare}
-use Rattle.lalrpop_norm_nodes.proofs.MeetLemmas.{split_at}
 
 -- ---- what a symbol reaches
 
@@ -111,21 +112,7 @@ pub none_made : (w : Whole) → own_text_in w ≡ None → own_in w ≡ []
 none_made (symbols ps) e = refl
 none_made (one_pattern p) e = refl
 none_made (patterns ps) e = refl
-none_made (one_symbol k) e = by k e
-  where
-    by : (k : Kind) → own_text (at nowhere k) ≡ None → own nowhere k ≡ []
-    by (group ps) f = absurd (cc f)
-    by (call n ps) f = absurd (cc f)
-    by (repeated op q) f = absurd (cc f)
-    by lookahead f = absurd (cc f)
-    by lookbehind f = absurd (cc f)
-    by (chosen q) f = refl
-    by (named n q) f = refl
-    by (tupled ns q) f = refl
-    by (ambiguous_id a) f = refl
-    by (terminal t) f = refl
-    by (nonterminal n) f = refl
-    by error_terminal f = refl
+none_made (one_symbol k) e = own_if nowhere k false (desugared nowhere k false (ap is_some e))
 
 -- a whole that is desugared: its symbol, and its text
 pub record Made (w : Whole) (t : List ℕ) : Type 0 where
@@ -138,21 +125,10 @@ pub one_made : (w : Whole) (t : List ℕ) → own_text_in w ≡ Some t → Made 
 one_made (symbols ps) t e = absurd (cc e)
 one_made (one_pattern p) t e = absurd (cc e)
 one_made (patterns ps) t e = absurd (cc e)
-one_made (one_symbol k) t e = by k e
-  where
-    by : (k : Kind) → own_text (at nowhere k) ≡ Some t → Made (one_symbol k) t
-    by (group ps) f = record { kind = group ps; is = refl; text = cc f; at_place = λ s. refl }
-    by (call n ps) f = record { kind = call n ps; is = refl; text = cc f; at_place = λ s. refl }
-    by (repeated op q) f = record { kind = repeated op q; is = refl; text = cc f; at_place = λ s. refl }
-    by lookahead f = record { kind = lookahead; is = refl; text = cc f; at_place = λ s. refl }
-    by lookbehind f = record { kind = lookbehind; is = refl; text = cc f; at_place = λ s. refl }
-    by (chosen q) f = absurd (cc f)
-    by (named n q) f = absurd (cc f)
-    by (tupled ns q) f = absurd (cc f)
-    by (ambiguous_id a) f = absurd (cc f)
-    by (terminal t) f = absurd (cc f)
-    by (nonterminal n) f = absurd (cc f)
-    by error_terminal f = absurd (cc f)
+one_made (one_symbol k) t e =
+    let d : is_desugared k ≡ true = desugared nowhere k true (ap is_some e) in
+    let text : Some (kind_text k) ≡ Some t = ap (λ b. cond b (Some (kind_text k)) None) (sym d) ∙ e in
+    record { kind = k; is = refl; text = cc text; at_place = λ s. own_if s k true d }
 
 -- the node of the first symbol of a text
 pub record Standing (ws : List Whole) (y : Part) : Type 0 where
@@ -164,33 +140,19 @@ pub record Standing (ws : List Whole) (y : Part) : Type 0 where
 further : (w : Whole) (ws : List Whole) (y : Part) → Standing ws y → Standing (w ∷ ws) y
 further w ws y h = record { number = suc h.number; kind = h.kind; stands = h.stands; is = h.is }
 
-abbrev Rest : List ℕ → List Whole → Part → Type 0
-Rest t ws y = first_with_text t (flat_map own_in ws) ≡ Some y → (k : Kind) → Standing (one_symbol k ∷ ws) y
-
 pub seen_stands : (t : List ℕ) (ws : List Whole) (y : Part) → first_with_text t (flat_map own_in ws) ≡ Some y → Standing ws y
 seen_stands t [] y e = absurd (cc e)
 seen_stands t (symbols ps ∷ ws) y e = further _ ws y (seen_stands t ws y e)
 seen_stands t (one_pattern p ∷ ws) y e = further _ ws y (seen_stands t ws y e)
 seen_stands t (patterns ps ∷ ws) y e = further _ ws y (seen_stands t ws y e)
-seen_stands t (one_symbol k ∷ ws) y e = by (λ f k. further (one_symbol k) ws y (seen_stands t ws y f)) k e
+seen_stands t (one_symbol k ∷ ws) y e = by (λ f. further (one_symbol k) ws y (seen_stands t ws y f)) (is_desugared k) e
   where
-    some_is : (k : Kind) → Some (at nowhere k) ≡ Some y → y ≡ at nowhere k
-    some_is k g = cc g
+    here : (first_with_text t (flat_map own_in ws) ≡ Some y → Standing (one_symbol k ∷ ws) y) → (b : Bool)
+        → cond b (Some (at nowhere k)) (first_with_text t (flat_map own_in ws)) ≡ Some y → Standing (one_symbol k ∷ ws) y
+    here deeper true f = record { number = 0; kind = k; stands = refl; is = cc f }
+    here deeper false f = deeper f
 
-    here : Rest t ws y → (b : Bool) (k : Kind) → cond b (Some (at nowhere k)) (first_with_text t (flat_map own_in ws)) ≡ Some y → Standing (one_symbol k ∷ ws) y
-    here rest true k f = record { number = 0; kind = k; stands = refl; is = some_is k f }
-    here rest false k f = rest f k
-
-    by : Rest t ws y → (k : Kind) → first_with_text t (own nowhere k ++ flat_map own_in ws) ≡ Some y → Standing (one_symbol k ∷ ws) y
-    by rest (group ps) f = here rest (bytes_eq (kind_text (group ps)) t) (group ps) f
-    by rest (call n ps) f = here rest (bytes_eq (kind_text (call n ps)) t) (call n ps) f
-    by rest (repeated op q) f = here rest (bytes_eq (kind_text (repeated op q)) t) (repeated op q) f
-    by rest lookahead f = here rest (bytes_eq (kind_text lookahead) t) lookahead f
-    by rest lookbehind f = here rest (bytes_eq (kind_text lookbehind) t) lookbehind f
-    by rest (chosen q) f = rest f (chosen q)
-    by rest (named n q) f = rest f (named n q)
-    by rest (tupled ns q) f = rest f (tupled ns q)
-    by rest (ambiguous_id a) f = rest f (ambiguous_id a)
-    by rest (terminal u) f = rest f (terminal u)
-    by rest (nonterminal n) f = rest f (nonterminal n)
-    by rest error_terminal f = rest f error_terminal
+    by : (first_with_text t (flat_map own_in ws) ≡ Some y → Standing (one_symbol k ∷ ws) y) → (b : Bool)
+        → first_with_text t (cond b (at nowhere k ∷ []) [] ++ flat_map own_in ws) ≡ Some y → Standing (one_symbol k ∷ ws) y
+    by deeper true f = here deeper (bytes_eq (kind_text k) t) f
+    by deeper false f = deeper f

@@ -3,9 +3,8 @@
 use Rattle.std.specs.Prelude.{List, map}
 use Rattle.lalrpop_norm_tree_names.specs.declared.names.Span.{Span}
 use Rattle.lalrpop_norm_tree.specs.declared.symbol.Symbol.{Symbol}
-use Rattle.lalrpop_norm_tree.specs.Symbols.{Kind, Part, Parts, group, ambiguous_id, terminal, nonterminal, call, repeated, chosen}
-use Rattle.lalrpop_norm_tree.specs.Symbols.{named, tupled, lookahead, lookbehind, error_terminal, at, no_parts, part_and}
-use Rattle.lalrpop_norm_tree.specs.Symbols.{symbol_view}
+use Rattle.lalrpop_norm_tree.specs.Symbols.{Kind, Part, Parts, group, ambiguous_id, nonterminal, call, repeated, chosen, named}
+use Rattle.lalrpop_norm_tree.specs.Symbols.{tupled, at, no_parts, part_and, symbol_view}
 
 abbrev pub nowhere : Span
 nowhere = record { 0 = 0; 1 = 0 }
@@ -15,16 +14,12 @@ abbrev mutual
   pub unplaced_kind : Kind → Kind
   unplaced_kind (group ps) = group (all_unplaced ps)
   unplaced_kind (ambiguous_id a) = nonterminal a
-  unplaced_kind (terminal t) = terminal t
-  unplaced_kind (nonterminal n) = nonterminal n
   unplaced_kind (call n ps) = call n (all_unplaced ps)
   unplaced_kind (repeated op p) = repeated op (unplaced p)
   unplaced_kind (chosen p) = chosen (unplaced p)
   unplaced_kind (named n p) = named n (unplaced p)
   unplaced_kind (tupled ns p) = tupled ns (unplaced p)
-  unplaced_kind lookahead = lookahead
-  unplaced_kind lookbehind = lookbehind
-  unplaced_kind error_terminal = error_terminal
+  unplaced_kind k = k
 
   pub unplaced : Part → Part
   unplaced (at s k) = at nowhere (unplaced_kind k)

@@ -1,10 +1,10 @@
 -- The environment of a macro: what its arguments are bound to, by ids.
 use Rattle.std.specs.Prelude.{◌≡◌, ℕ, List, Option, Some, None, option_map, option_and_then, slice_get}
 use Rattle.lalrpop_norm_names.specs.Numbers.{number_in_table}
-use Rattle.lalrpop_norm_tree.specs.Symbols.{Kind, Part, nonterminal, kind_view}
+use Rattle.lalrpop_norm_tree.specs.Symbols.{Kind, Part, Parts, nonterminal, kind_view}
 use Rattle.lalrpop_norm_tree.specs.SymbolTexts.{kind_text}
-use Rattle.lalrpop_norm_model.specs.Replaced.{replaced, replaced_kind}
-use Rattle.lalrpop_norm_nodes.specs.Filled.{filled, filled_kind, inside_replaced}
+use Rattle.lalrpop_norm_model.specs.Replaced.{replaced, replaced_kind, all_replaced}
+use Rattle.lalrpop_norm_nodes.specs.Filled.{filled, filled_kind, all_filled, inside_replaced}
 use Rattle.lalrpop_norm_nodes.specs.declared.given.Given.{Given}
 use Rattle.lalrpop_norm_nodes.specs.declared.given.Environment.{Environment}
 use Rattle.lalrpop_norm_nodes.specs.Wholes.{Whole, kind_at, IsKind}
@@ -38,11 +38,17 @@ given_to e _ = None
 abbrev pub read_whole : List Whole → Environment → Part → Part
 read_whole ws e p = filled (whole_for ws e) p
 
+abbrev pub all_whole : List Whole → Environment → Parts → Parts
+all_whole ws e ps = all_filled (whole_for ws e) ps
+
 abbrev pub kind_whole : List Whole → Environment → Kind → Kind
 kind_whole ws e k = filled_kind (whole_for ws e) k
 
 abbrev pub read_shown : Environment → Part → Part
 read_shown e p = replaced (filled (shown_for e) p)
+
+abbrev pub all_shown : Environment → Parts → Parts
+all_shown e ps = all_replaced (all_filled (shown_for e) ps)
 
 abbrev pub kind_shown : Environment → Kind → Kind
 kind_shown e k = inside_replaced (filled_kind (shown_for e) k)

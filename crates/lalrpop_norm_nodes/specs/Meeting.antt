@@ -4,13 +4,13 @@ use Rattle.std.specs.Prelude.{map, length, Option, Some, None, is_some, option_a
 use Rattle.std.specs.HashSet.{HashSet, contains}
 use Rattle.lalrpop_norm_names.specs.declared.seeded.Seeded.{Seeded}
 use Rattle.lalrpop_norm_tree_names.specs.declared.names.Span.{Span}
-use Rattle.lalrpop_norm_tree.specs.Symbols.{Kind, Part, group, ambiguous_id, terminal, nonterminal, call, repeated, chosen, named}
-use Rattle.lalrpop_norm_tree.specs.Symbols.{tupled, lookahead, lookbehind, error_terminal, at, symbol_view}
-use Rattle.lalrpop_norm_tree.specs.SymbolTexts.{part_text}
+use Rattle.lalrpop_norm_tree.specs.Symbols.{Kind, Part, group, call, repeated, chosen, named, tupled, at, symbol_view}
+use Rattle.lalrpop_norm_tree.specs.SymbolTexts.{kind_text, part_text}
 use Rattle.lalrpop_norm_faults.specs.declared.kind.FaultKind.TheVariants.{SharedName}
 use Rattle.lalrpop_norm_faults.specs.Faults.{Fault, fault_if}
 use Rattle.lalrpop_norm_model.specs.PlainRules.{same_apart_from_spans, met, all_met}
 use Rattle.lalrpop_norm_model.specs.MadeRules.{span_of}
+use Rattle.lalrpop_norm_model.specs.Replaced.{is_desugared}
 
 -- ---- what a symbol reaches
 
@@ -22,27 +22,11 @@ met_inside (repeated op p) = met p
 met_inside (chosen p) = met p
 met_inside (named n p) = met p
 met_inside (tupled ns p) = met p
-met_inside (ambiguous_id a) = []
-met_inside (terminal t) = []
-met_inside (nonterminal n) = []
-met_inside lookahead = []
-met_inside lookbehind = []
-met_inside error_terminal = []
+met_inside _ = []
 
 -- the symbol itself, if it is desugared
 abbrev pub own : Span → Kind → List Part
-own s (group ps) = at s (group ps) ∷ []
-own s (call n ps) = at s (call n ps) ∷ []
-own s (repeated op p) = at s (repeated op p) ∷ []
-own s lookahead = at s lookahead ∷ []
-own s lookbehind = at s lookbehind ∷ []
-own s (ambiguous_id a) = []
-own s (terminal t) = []
-own s (nonterminal n) = []
-own s (chosen p) = []
-own s (named n p) = []
-own s (tupled ns p) = []
-own s error_terminal = []
+own s k = if is_desugared k then at s k ∷ [] else []
 
 abbrev pub met_itself : Part → List Part
 met_itself (at s k) = own s k
@@ -52,18 +36,7 @@ inside (at s k) = met_inside k
 
 -- the text of a symbol that is desugared
 abbrev pub own_text : Part → Option (List ℕ)
-own_text (at s (group ps)) = Some (part_text (at s (group ps)))
-own_text (at s (call n ps)) = Some (part_text (at s (call n ps)))
-own_text (at s (repeated op p)) = Some (part_text (at s (repeated op p)))
-own_text (at s lookahead) = Some (part_text (at s lookahead))
-own_text (at s lookbehind) = Some (part_text (at s lookbehind))
-own_text (at s (ambiguous_id a)) = None
-own_text (at s (terminal t)) = None
-own_text (at s (nonterminal n)) = None
-own_text (at s (chosen p)) = None
-own_text (at s (named n p)) = None
-own_text (at s (tupled ns p)) = None
-own_text (at s error_terminal) = None
+own_text (at s k) = if is_desugared k then Some (kind_text k) else None
 
 -- ---- symbols reached one after another
 

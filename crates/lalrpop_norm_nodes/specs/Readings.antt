@@ -2,12 +2,12 @@
 use Rattle.std.specs.Prelude.{◌≡◌, ℕ, List, map, if◌then◌else◌}
 use Rattle.lalrpop_norm_tree.specs.declared.symbol.RepeatOp.{RepeatOp}
 use Rattle.lalrpop_norm_tree.specs.declared.symbol.RepeatOp.TheVariants.{Star, Plus, Question, Times}
+use Rattle.lalrpop_norm_model.specs.Replaced.{is_desugared}
 use Rattle.lalrpop_norm_nodes.specs.declared.node.Node.TheVariants as node
 use Rattle.lalrpop_norm_nodes.specs.declared.node.Unary.TheVariants as unary
 use Rattle.lalrpop_norm_nodes.specs.declared.node.NamedUnary.TheVariants as named_unary
 use Rattle.lalrpop_norm_tree.specs.declared.symbol.Name.{Name}
-use Rattle.lalrpop_norm_tree.specs.Symbols.{one_name, Kind, Part, group, ambiguous_id, terminal, nonterminal, call, repeated, chosen, named}
-use Rattle.lalrpop_norm_tree.specs.Symbols.{tupled, lookahead, lookbehind, error_terminal, at}
+use Rattle.lalrpop_norm_tree.specs.Symbols.{one_name, Kind, Part, nonterminal, at}
 use Rattle.lalrpop_norm_tree.specs.SymbolTexts.{kind_text}
 use Rattle.lalrpop_norm_nodes.specs.Apart.{unplaced, unplaced_kind}
 use Rattle.lalrpop_norm_nodes.specs.declared.node.Node.{Node}
@@ -21,18 +21,7 @@ IsNodeFor ws n k = Fits ws n × (built ws n ≡ one_symbol (unplaced_kind k))
 
 -- a symbol with its parts rewritten, itself rewritten
 abbrev pub topped_kind : Kind → Kind
-topped_kind (group ps) = nonterminal (kind_text (group ps))
-topped_kind (call n ps) = nonterminal (kind_text (call n ps))
-topped_kind (repeated op p) = nonterminal (kind_text (repeated op p))
-topped_kind lookahead = nonterminal (kind_text lookahead)
-topped_kind lookbehind = nonterminal (kind_text lookbehind)
-topped_kind (chosen p) = chosen p
-topped_kind (named n p) = named n p
-topped_kind (tupled ns p) = tupled ns p
-topped_kind (ambiguous_id a) = ambiguous_id a
-topped_kind (terminal t) = terminal t
-topped_kind (nonterminal n) = nonterminal n
-topped_kind error_terminal = error_terminal
+topped_kind k = if is_desugared k then nonterminal (kind_text k) else k
 
 abbrev pub topped : Part → Part
 topped (at s k) = at s (topped_kind k)

@@ -1,5 +1,6 @@
 -- What a table of nodes has reached, and what is reached in it.
-use Rattle.std.specs.Prelude.{◌≡◌, ⊤, ℕ, Bool, true, List, [], map, length, Option, Some, None, is_some, option_and_then, slice_get, flat_map, nat_eq}
+use Rattle.std.specs.Prelude.{◌≡◌, ⊤, ℕ, Bool, true, ◌||◌, List, [], map, length, Option, Some, None, is_some, option_and_then, slice_get}
+use Rattle.std.specs.Prelude.{flat_map, nat_eq}
 use Rattle.std.specs.Cmp.Lexicographic.{pointwise}
 use Rattle.std.specs.HashMap.{get}
 use Rattle.lalrpop_norm_tree_names.specs.declared.names.Span.{Span}
@@ -64,6 +65,10 @@ inner_of (one_symbol k) = met_inside k
 inner_of (symbols ps) = all_met (parts_of ps)
 inner_of (one_pattern p) = []
 inner_of (patterns ps) = []
+
+-- whether a text is a declared name, or that of a symbol that was reached
+abbrev pub is_taken_in : Table → List ℕ → Bool
+is_taken_in t x = is_declared_in t x || is_some (first_with_text x (seen_in t))
 
 -- the symbols on the worklist, in the order in which they were reached
 abbrev pub waiting_in : Table → List Part

@@ -2,11 +2,13 @@
 //!
 //! A key of a table can be chosen only if it is written there, or made of what is. Whoever changes a key changes all hashes.
 ghost use Rattle.std.specs.Prelude.{◌≡◌, ◌++◌, map, flat_map};
-ghost use Rattle.std.specs.Hash.{u8, bool, str};
+ghost use Rattle.std.specs.Hash.{u8, str};
 ghost use Rattle.lalrpop_norm_names.specs.Seeds.{hasher_after, seeded_after};
 ghost use Rattle.lalrpop_norm_tree.specs.Symbols.{argument_pattern_view, argument_patterns_view, kind_view, symbol_view, parts_view};
 ghost use Rattle.lalrpop_norm_tree.specs.Items.{alternative_view, item_view};
-ghost use Rattle.lalrpop_norm_nodes.specs.Digests.{name_writes, terminal_writes, op_writes, pattern_writes, patterns_writes, kind_writes, part_writes, parts_writes, alternative_writes, item_writes, reader_of_items};
+ghost use Rattle.lalrpop_norm_nodes.specs.Digests.{name_writes, terminal_writes, op_writes, pattern_writes, patterns_writes};
+ghost use Rattle.lalrpop_norm_nodes.specs.Digests.{kind_writes, part_writes, parts_writes, alternative_writes, item_writes};
+ghost use Rattle.lalrpop_norm_nodes.specs.Digests.{reader_of_items};
 
 use lalrpop_norm_names::Seeded;
 use lalrpop_norm_tree::grammar::parse_tree::{

@@ -1,9 +1,10 @@
 //! The ids of the parts of a symbol.
-ghost use Rattle.std.specs.Prelude.{◌≡◌, true, IfOk, Some, map, length, option_and_then, option_map, slice_get};
+ghost use Rattle.std.specs.Prelude.{◌≡◌, true, IfOk, Some, map, length, slice_get};
 ghost use Rattle.lalrpop_norm_model.specs.MadeRules.{kind_of, all_kinds};
 ghost use Rattle.lalrpop_norm_nodes.specs.Wholes.{one_symbol, kind_at, symbols_at, IsKind, AreSymbols, StandsFor};
 ghost use Rattle.lalrpop_norm_nodes.specs.Tables.{wholes_in, IsNodeTable};
-ghost use Rattle.lalrpop_norm_nodes.specs.NodeParts.{is_call, call_parts, is_repeat, repeated_kind, row_of_call, part_of_repeat, last_in_row, EndsRow};
+ghost use Rattle.lalrpop_norm_nodes.specs.NodeParts.{is_call, call_parts, is_repeat, repeated_kind, row_of_call, part_of_repeat};
+ghost use Rattle.lalrpop_norm_nodes.specs.NodeParts.{last_in_row, EndsRow};
 
 use crate::given::Given;
 use crate::node::{Binary, NamedUnary, Node, Unary};
@@ -76,7 +77,8 @@ fn arguments_row(table: &Table, number: usize) -> usize
     requires stands { IsKind (wholes_in table.now) number }
     requires call { is_call (kind_at (wholes_in table.now) number) ≡ true }
     ensures row { AreSymbols (wholes_in table.now) result }
-    ensures kinds { map kind_of (symbols_at (wholes_in table.now) result) ≡ all_kinds (call_parts (kind_at (wholes_in table.now) number)) }
+    ensures kinds { map kind_of (symbols_at (wholes_in table.now) result)
+        ≡ all_kinds (call_parts (kind_at (wholes_in table.now) number)) }
 {
     match table.node(number) {
         Some(node) => row_of_call(node),
@@ -106,7 +108,8 @@ fn given_in_row(
     requires table { IsNodeTable table.now }
     requires row { AreSymbols (wholes_in table.now) row }
     requires long { length (symbols_at (wholes_in table.now) row) ≡ length symbols.items }
-    ensures numbers { IfOk result (λ gs. map (λ g. slice_get (wholes_in table.now) g.number) gs.items ≡ map (λ p. Some (one_symbol (kind_of p))) (symbols_at (wholes_in table.now) row)) }
+    ensures numbers { IfOk result (λ gs. map (λ g. slice_get (wholes_in table.now) g.number) gs.items
+        ≡ map (λ p. Some (one_symbol (kind_of p))) (symbols_at (wholes_in table.now) row)) }
     ensures symbols { IfOk result (λ gs. map (λ g. g.symbol) gs.items ≡ symbols.items) }
 {
     let mut given = Vec::with_capacity(alloc, symbols.len())?;
@@ -133,7 +136,8 @@ pub fn given_by_call(
     requires stands { IsKind (wholes_in table.now) number }
     requires call { is_call (kind_at (wholes_in table.now) number) ≡ true }
     requires long { length (all_kinds (call_parts (kind_at (wholes_in table.now) number))) ≡ length symbols.items }
-    ensures numbers { IfOk result (λ gs. map (λ g. slice_get (wholes_in table.now) g.number) gs.items ≡ map (λ k. Some (one_symbol k)) (all_kinds (call_parts (kind_at (wholes_in table.now) number)))) }
+    ensures numbers { IfOk result (λ gs. map (λ g. slice_get (wholes_in table.now) g.number) gs.items
+        ≡ map (λ k. Some (one_symbol k)) (all_kinds (call_parts (kind_at (wholes_in table.now) number)))) }
     ensures symbols { IfOk result (λ gs. map (λ g. g.symbol) gs.items ≡ symbols.items) }
 {
     let row = arguments_row(table, number);

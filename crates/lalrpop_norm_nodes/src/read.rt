@@ -1,16 +1,13 @@
 //! Symbols read in an environment of ids, and rewritten in place.
-ghost use Rattle.std.specs.Prelude.{◌≡◌, true, None, Some, IfOk, OnOk, is_some, map, option_and_then, option_map, slice_get};
-ghost use Rattle.lalrpop_norm_tree.specs.Symbols.{at, group, call, nonterminal, kind_view, symbol_view, parts_view, expr_view, macro_view};
+ghost use Rattle.std.specs.Prelude.{◌≡◌, true, IfOk, OnOk, is_some};
+ghost use Rattle.lalrpop_norm_tree.specs.Symbols.{at, kind_view, symbol_view, parts_view, expr_view, macro_view};
 ghost use Rattle.lalrpop_norm_faults.specs.Faults.{Refuses};
-ghost use Rattle.lalrpop_norm_model.specs.PlainRules.{met, all_met};
-ghost use Rattle.lalrpop_norm_model.specs.Replaced.{all_replaced};
-ghost use Rattle.lalrpop_norm_nodes.specs.Apart.{nowhere, unplaced_kind};
-ghost use Rattle.lalrpop_norm_nodes.specs.Meeting.{met_inside, met_itself, own_text};
-ghost use Rattle.lalrpop_norm_nodes.specs.Filled.{all_filled, filled_kind};
-ghost use Rattle.lalrpop_norm_nodes.specs.Given.{given_to, whole_for, shown_for, AreGiven, read_whole, kind_whole, read_shown, kind_shown};
-ghost use Rattle.lalrpop_norm_nodes.specs.Readings.{IsNodeFor, repeat_node, named_node, topped, bare_wholes};
-ghost use Rattle.lalrpop_norm_nodes.specs.Waits.{parts_replaced, shown_met, LeavesWaiting};
-ghost use Rattle.lalrpop_norm_nodes.specs.Wholes.{one_symbol, symbols, Fits, built, StandsFor};
+ghost use Rattle.lalrpop_norm_nodes.specs.Apart.{nowhere};
+ghost use Rattle.lalrpop_norm_nodes.specs.Meeting.{met_itself, own_text};
+ghost use Rattle.lalrpop_norm_nodes.specs.Reads.{CanRead, CanReadInside, SymbolRead, RepeatRead, RowRead, KindRead, GroupRead, CallRead};
+ghost use Rattle.lalrpop_norm_nodes.specs.Readings.{repeat_node, named_node, topped};
+ghost use Rattle.lalrpop_norm_nodes.specs.Waits.{LeavesWaiting};
+ghost use Rattle.lalrpop_norm_nodes.specs.Wholes.{Fits, built, StandsFor};
 ghost use Rattle.lalrpop_norm_nodes.specs.Tables.{wholes_in, own_at, own_text_in, IsNodeTable, IsCounted, TableMeets, refused_in};
 
 use crate::given::{Environment, Given, given_to};
@@ -130,15 +127,8 @@ pub fn read_symbol(
     symbol: &mut Symbol,
     table: &mut Table,
 ) -> NormResult<usize>
-    requires table { IsNodeTable table.old }
-    requires counted { IsCounted table.old }
-    requires given { AreGiven (wholes_in table.old) environment.now }
-    ensures refuses { Refuses result (refused_in table.old (met (read_whole (wholes_in table.old) environment.now (symbol_view symbol.old)))) }
-    ensures meets { OnOk result (TableMeets table.old table.new (met (read_whole (wholes_in table.old) environment.now (symbol_view symbol.old)))) }
-    ensures counted { OnOk result (IsCounted table.new) }
-    ensures waits { OnOk result (LeavesWaiting table.old table.new (shown_met environment.now (symbol_view symbol.old))) }
-    ensures value { OnOk result (symbol_view symbol.new ≡ read_shown environment.now (symbol_view symbol.old)) }
-    ensures number { IfOk result (λ i. StandsFor (wholes_in table.new) i (one_symbol (unplaced_kind (kind_whole (wholes_in table.old) environment.now (kind_view symbol.old.kind))))) }
+    requires { CanRead table.old environment.now }
+    ensures { SymbolRead result table.old table.new environment.now symbol.old (symbol_view symbol.new) }
 {
     if let Some(given) = given_to(environment, &symbol.kind) {
         let number = put_given(given, symbol)?;
@@ -155,15 +145,8 @@ fn read_boxed(
     symbol: &mut Box<Symbol>,
     table: &mut Table,
 ) -> NormResult<usize>
-    requires table { IsNodeTable table.old }
-    requires counted { IsCounted table.old }
-    requires given { AreGiven (wholes_in table.old) environment.now }
-    ensures refuses { Refuses result (refused_in table.old (met (read_whole (wholes_in table.old) environment.now (symbol_view symbol.old.value)))) }
-    ensures meets { OnOk result (TableMeets table.old table.new (met (read_whole (wholes_in table.old) environment.now (symbol_view symbol.old.value)))) }
-    ensures counted { OnOk result (IsCounted table.new) }
-    ensures waits { OnOk result (LeavesWaiting table.old table.new (shown_met environment.now (symbol_view symbol.old.value))) }
-    ensures value { OnOk result (symbol_view symbol.new.value ≡ read_shown environment.now (symbol_view symbol.old.value)) }
-    ensures number { IfOk result (λ i. StandsFor (wholes_in table.new) i (one_symbol (unplaced_kind (kind_whole (wholes_in table.old) environment.now (kind_view symbol.old.value.kind))))) }
+    requires { CanRead table.old environment.now }
+    ensures { SymbolRead result table.old table.new environment.now symbol.old.value (symbol_view symbol.new.value) }
 {
     let number = read_symbol(alloc, environment, symbol, table)?;
     Ok(number)
@@ -177,16 +160,8 @@ fn node_of(
     kind: &mut SymbolKind,
     table: &mut Table,
 ) -> NormResult<Node>
-    requires table { IsNodeTable table.old }
-    requires counted { IsCounted table.old }
-    requires given { AreGiven (wholes_in table.old) environment.now }
-    requires unbound { given_to environment.now (kind_view kind.old) ≡ None }
-    ensures refuses { Refuses result (refused_in table.old (met_inside (kind_whole (wholes_in table.old) environment.now (kind_view kind.old)))) }
-    ensures meets { OnOk result (TableMeets table.old table.new (met_inside (kind_whole (wholes_in table.old) environment.now (kind_view kind.old)))) }
-    ensures counted { OnOk result (IsCounted table.new) }
-    ensures waits { OnOk result (LeavesWaiting table.old table.new (map parts_replaced (met_inside (filled_kind (shown_for environment.now) (kind_view kind.old))))) }
-    ensures value { OnOk result (kind_view kind.new ≡ kind_shown environment.now (kind_view kind.old)) }
-    ensures node { IfOk result (λ n. IsNodeFor (wholes_in table.new) n (kind_whole (wholes_in table.old) environment.now (kind_view kind.old))) }
+    requires { CanReadInside table.old environment.now (kind_view kind.old) }
+    ensures { KindRead result table.old table.new environment.now (kind_view kind.old) (kind_view kind.new) }
 {
     match kind {
         SymbolKind::Nonterminal(name) => Ok(Node::NamedLeaf(NamedLeaf::Rule, name.0.clone()?)),
@@ -225,16 +200,9 @@ fn read_repeated(
     repeat: &mut Box<RepeatSymbol>,
     table: &mut Table,
 ) -> NormResult<usize>
-    requires table { IsNodeTable table.old }
-    requires counted { IsCounted table.old }
-    requires given { AreGiven (wholes_in table.old) environment.now }
-    ensures refuses { Refuses result (refused_in table.old (met (read_whole (wholes_in table.old) environment.now (symbol_view repeat.old.value.symbol)))) }
-    ensures meets { OnOk result (TableMeets table.old table.new (met (read_whole (wholes_in table.old) environment.now (symbol_view repeat.old.value.symbol)))) }
-    ensures counted { OnOk result (IsCounted table.new) }
-    ensures op { OnOk result (repeat.new.value.op ≡ repeat.old.value.op) }
-    ensures waits { OnOk result (LeavesWaiting table.old table.new (shown_met environment.now (symbol_view repeat.old.value.symbol))) }
-    ensures value { OnOk result (symbol_view repeat.new.value.symbol ≡ read_shown environment.now (symbol_view repeat.old.value.symbol)) }
-    ensures number { IfOk result (λ i. StandsFor (wholes_in table.new) i (one_symbol (unplaced_kind (kind_whole (wholes_in table.old) environment.now (kind_view repeat.old.value.symbol.kind))))) }
+    requires { CanRead table.old environment.now }
+    ensures { RepeatRead result table.old table.new environment.now repeat.old.value repeat.new.value.op
+        (symbol_view repeat.new.value.symbol) }
 {
     let number = read_symbol(alloc, environment, &mut repeat.symbol, table)?;
     Ok(number)
@@ -248,15 +216,8 @@ fn read_group(
     expr: &mut ExprSymbol,
     table: &mut Table,
 ) -> NormResult<Node>
-    requires table { IsNodeTable table.old }
-    requires counted { IsCounted table.old }
-    requires given { AreGiven (wholes_in table.old) environment.now }
-    ensures refuses { Refuses result (refused_in table.old (all_met (all_filled (whole_for (wholes_in table.old) environment.now) (expr_view expr.old)))) }
-    ensures meets { OnOk result (TableMeets table.old table.new (all_met (all_filled (whole_for (wholes_in table.old) environment.now) (expr_view expr.old)))) }
-    ensures counted { OnOk result (IsCounted table.new) }
-    ensures waits { OnOk result (LeavesWaiting table.old table.new (map parts_replaced (all_met (all_filled (shown_for environment.now) (expr_view expr.old))))) }
-    ensures value { OnOk result (expr_view expr.new ≡ all_replaced (all_filled (shown_for environment.now) (expr_view expr.old))) }
-    ensures node { IfOk result (λ n. IsNodeFor (wholes_in table.new) n (group (all_filled (whole_for (wholes_in table.old) environment.now) (expr_view expr.old)))) }
+    requires { CanRead table.old environment.now }
+    ensures { GroupRead result table.old table.new environment.now (expr_view expr.old) (expr_view expr.new) }
 {
     let row = read_row(alloc, environment, &mut expr.symbols, table)?;
     Ok(Node::Unary(Unary::Group, row))
@@ -270,15 +231,8 @@ fn read_call(
     instance: &mut MacroSymbol,
     table: &mut Table,
 ) -> NormResult<Node>
-    requires table { IsNodeTable table.old }
-    requires counted { IsCounted table.old }
-    requires given { AreGiven (wholes_in table.old) environment.now }
-    ensures refuses { Refuses result (refused_in table.old (all_met (all_filled (whole_for (wholes_in table.old) environment.now) (macro_view instance.old).1))) }
-    ensures meets { OnOk result (TableMeets table.old table.new (all_met (all_filled (whole_for (wholes_in table.old) environment.now) (macro_view instance.old).1))) }
-    ensures counted { OnOk result (IsCounted table.new) }
-    ensures waits { OnOk result (LeavesWaiting table.old table.new (map parts_replaced (all_met (all_filled (shown_for environment.now) (macro_view instance.old).1)))) }
-    ensures value { OnOk result (macro_view instance.new ≡ ((macro_view instance.old).0, all_replaced (all_filled (shown_for environment.now) (macro_view instance.old).1))) }
-    ensures node { IfOk result (λ n. IsNodeFor (wholes_in table.new) n (call (macro_view instance.old).0 (all_filled (whole_for (wholes_in table.old) environment.now) (macro_view instance.old).1))) }
+    requires { CanRead table.old environment.now }
+    ensures { CallRead result table.old table.new environment.now (macro_view instance.old) (macro_view instance.new) }
 {
     let name = instance.name.0.clone()?;
     let row = read_row(alloc, environment, &mut instance.args, table)?;
@@ -295,15 +249,8 @@ pub fn read_row(
     several: &mut [Symbol],
     table: &mut Table,
 ) -> NormResult<usize>
-    requires table { IsNodeTable table.old }
-    requires counted { IsCounted table.old }
-    requires given { AreGiven (wholes_in table.old) environment.now }
-    ensures refuses { Refuses result (refused_in table.old (all_met (all_filled (whole_for (wholes_in table.old) environment.now) (parts_view several.old)))) }
-    ensures meets { OnOk result (TableMeets table.old table.new (all_met (all_filled (whole_for (wholes_in table.old) environment.now) (parts_view several.old)))) }
-    ensures counted { OnOk result (IsCounted table.new) }
-    ensures waits { OnOk result (LeavesWaiting table.old table.new (map parts_replaced (all_met (all_filled (shown_for environment.now) (parts_view several.old))))) }
-    ensures value { OnOk result (parts_view several.new ≡ all_replaced (all_filled (shown_for environment.now) (parts_view several.old))) }
-    ensures number { IfOk result (λ i. StandsFor (wholes_in table.new) i (symbols (bare_wholes (wholes_in table.old) environment.now (map symbol_view several.old)))) }
+    requires { CanRead table.old environment.now }
+    ensures { RowRead result table.old table.new environment.now several.old (parts_view several.new) }
 {
     let mut row = table.enter_no_symbols()?;
     for i in 0..several.len() {

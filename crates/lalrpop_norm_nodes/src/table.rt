@@ -1,12 +1,14 @@
 //! The nodes of the symbols that were reached, and their texts.
-ghost use Rattle.std.specs.Prelude.{◌≡◌, ◌+◌, ◌++◌, ◌∷◌, ◌||◌, [], false, None, Some, IfOk, OnOk, is_some, length, map, option_map, option_and_then, slice_get};
+ghost use Rattle.std.specs.Prelude.{◌≡◌, ◌+◌, ◌++◌, ◌∷◌, [], false, None, Some, IfOk, OnOk, length, map, option_map, option_and_then};
+ghost use Rattle.std.specs.Prelude.{slice_get};
 ghost use Rattle.lalrpop_norm_tree.specs.Symbols.{at, nonterminal, symbol_view};
 ghost use Rattle.lalrpop_norm_tree.specs.SymbolTexts.{part_text};
 ghost use Rattle.lalrpop_norm_faults.specs.Faults.{Refuses, IsFirst, fault_if};
 ghost use Rattle.lalrpop_norm_faults.specs.declared.kind.FaultKind.TheVariants.{SharedName};
 ghost use Rattle.lalrpop_norm_nodes.specs.Meeting.{first_with_text};
 ghost use Rattle.lalrpop_norm_nodes.specs.Wholes.{symbols, Fits, built, part_at, StandsFor, IsNew, Grows, nodes_of};
-ghost use Rattle.lalrpop_norm_nodes.specs.Tables.{wholes_in, seen_in, own_at, own_in, own_text_in, is_declared_in, IsNodeTable, IsCounted, TableMeets, refused_in, waiting_in, numbered_in, AreNumbered};
+ghost use Rattle.lalrpop_norm_nodes.specs.Tables.{wholes_in, is_taken_in, seen_in, own_at, own_in, own_text_in, is_declared_in};
+ghost use Rattle.lalrpop_norm_nodes.specs.Tables.{IsNodeTable, IsCounted, TableMeets, refused_in, waiting_in, numbered_in, AreNumbered};
 ghost use Rattle.lalrpop_norm_nodes.specs.Waits.{LeavesWaiting};
 
 use crate::node::{Leaf, Node, Nodes};
@@ -102,7 +104,7 @@ impl Table {
     /// Whether a text is a declared name, or that of a symbol that was reached.
     fn is_taken(&self, name: &Atom) -> bool
         requires { IsNodeTable self.now }
-        ensures { result ≡ (is_declared_in self.now name.now || is_some (first_with_text name.now (seen_in self.now))) }
+        ensures { result ≡ is_taken_in self.now name.now }
     {
         self.names.contains(name) || self.places.contains_key(name)
     }
@@ -183,7 +185,8 @@ impl Table {
     fn free_text(&mut self, alloc: Global, symbol: &Symbol) -> NormResult<Atom>
         requires table { IsNodeTable self.old }
         requires counted { IsCounted self.old }
-        ensures refuses { Refuses result (fault_if (is_declared_in self.old (part_text (symbol_view symbol.now)) || is_some (first_with_text (part_text (symbol_view symbol.now)) (seen_in self.old))) (SharedName, symbol.now.span)) }
+        ensures refuses { Refuses result
+            (fault_if (is_taken_in self.old (part_text (symbol_view symbol.now))) (SharedName, symbol.now.span)) }
         ensures text { IfOk result (λ n. n ≡ part_text (symbol_view symbol.now)) }
         ensures counted { OnOk result (self.new.made.count ≡ self.old.made.count + 1) }
         ensures names { OnOk result (self.new.names ≡ self.old.names) }

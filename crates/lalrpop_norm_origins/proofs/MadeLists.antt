@@ -57,7 +57,7 @@ found_so ts n d e = by (traced_macro ts n) refl (macro_found ts n ∙ e)
 
 -- ---- what is kept
 
--- the same is kept of the same conditions
+-- two tests that agree on each condition keep the origins of the same alternatives
 kept_same : (keeps holds : Option Condition → Bool) → ((c : Option Condition) → keeps c ≡ holds c) → (n : Name) (k : ℕ) (ps : List (Option Leveled)) (xs : List AlternativeData) →
     conditions_of xs ≡ conditions_there (present ps) →
     kept_origins (λ a. keeps a.condition) xs (places_from n k ps) ≡ kept_there (λ a. holds a.alternative.condition) ps (places_from n k ps)

@@ -4,7 +4,7 @@ use Rattle.std.specs.Prelude.{ℕ, flat_map, Option, Some, None, option_map, if�
 use Rattle.std.proofs.lemmas.List.{length-map, map-append}
 use Rattle.lalrpop_norm_tree_names.specs.declared.names.Span.{Span}
 use Rattle.lalrpop_norm_tree.specs.declared.symbol.RepeatOp.TheVariants.{Star, Plus, Question, Times}
-use Rattle.lalrpop_norm_tree.specs.Symbols.{Part, Parts, group, ambiguous_id, terminal, nonterminal, call, repeated, chosen, named, tupled, lookahead, lookbehind, error_terminal, at}
+use Rattle.lalrpop_norm_tree.specs.Symbols.{Part, Parts, ambiguous_id, terminal, nonterminal, call, repeated, chosen, named, tupled, error_terminal, at}
 use Rattle.lalrpop_norm_tree.specs.Items.{AlternativeData, RuleData, ItemData, GrammarData, rule_item, match_item, extern_item, intern_item, use_item}
 use Rattle.lalrpop_norm_theory.specs.Symbols.{Name}
 use Rattle.lalrpop_norm_theory.specs.LoweredTrees.{Origin}
@@ -153,14 +153,11 @@ module _ (value : ConditionValue) (macros : List RuleData) (found : Name → Opt
       (length-map (instance_alternatives value s t.0 ps t.0.alternatives) replaced_alternative ∙ kept_long value s t.0 ps t.0.alternatives t.1 (long n t e), tt)
 
   shaped_made : (p : Part) → IsShaped (map item_of (made_rules value macros p)) (made_origins value found p)
-  shaped_made (at s (group ps)) = (refl, tt)
   shaped_made (at s (call n ps)) = shaped_call s n ps (found n) refl
   shaped_made (at s (repeated Star p)) = (refl, tt)
   shaped_made (at s (repeated Plus p)) = (refl, tt)
   shaped_made (at s (repeated Question p)) = (refl, tt)
   shaped_made (at s (repeated (Times n) p)) = (refl, tt)
-  shaped_made (at s lookahead) = (refl, tt)
-  shaped_made (at s lookbehind) = (refl, tt)
   shaped_made (at s (ambiguous_id a)) = tt
   shaped_made (at s (terminal t)) = tt
   shaped_made (at s (nonterminal n)) = tt
@@ -168,6 +165,7 @@ module _ (value : ConditionValue) (macros : List RuleData) (found : Name → Opt
   shaped_made (at s (named n p)) = tt
   shaped_made (at s (tupled ns p)) = tt
   shaped_made (at s error_terminal) = tt
+  shaped_made (at s _) = (refl, tt)
 
   all_shaped : (ps : List Part) → IsShaped (map item_of (flat_map (made_rules value macros) ps)) (flat_map (made_origins value found) ps)
   all_shaped [] = tt

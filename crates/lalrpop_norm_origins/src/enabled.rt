@@ -36,7 +36,8 @@ fn add_item<L>(
     item: &GrammarItem,
     lists: &mut Vec<Vec<Origin>>,
 ) -> Result<(), NoMemory>
-    ensures { OnOk result (origin_lists lists.new.items ≡ origin_lists lists.old.items ++ enabled_item_origins (features_view session.now.features) (item_view item.now)) }
+    ensures { OnOk result (origin_lists lists.new.items
+        ≡ origin_lists lists.old.items ++ enabled_item_origins (features_view session.now.features) (item_view item.now)) }
 {
     match item {
         GrammarItem::Nonterminal(rule) => {

@@ -10,7 +10,7 @@ use Rattle.lalrpop_norm_model.specs.Levels.{Side, every, Leveled, greatest, grea
 use Rattle.lalrpop_norm_model.specs.Stated.{IsRising, level_after, side_after, handed_on}
 use Rattle.lalrpop_norm_model.specs.Occurrences.{own_bound}
 use Rattle.lalrpop_norm_model.specs.ClosedTexts.{level_name}
-use Rattle.lalrpop_norm_model.specs.LevelRules.{leveled_parts, level_of_rule, is_own, level_alternative, step_alternatives, of_level, level_rule, level_rules}
+use Rattle.lalrpop_norm_model.specs.LevelRules.{leveled_parts, level_nonterminal, level_of_rule, is_own, level_alternative, step_alternatives, of_level, level_rule, level_rules}
 use Rattle.lalrpop_norm_model.proofs.LevelLemmas.{rising_rises}
 use Rattle.lalrpop_norm_model.proofs.HandedLemmas.{levels_are_handed_on}
 use Rattle.lalrpop_norm_tree.specs.declared.items.Alternative.{Alternative}
@@ -89,7 +89,7 @@ same_alternatives f g l (a ∷ xs) h =
 module _ (r : RuleData) (ps : List (Option Leveled)) where
   abbrev with_parts : Leveled → ℕ → Option ℕ → AlternativeData
   with_parts a l previous = record a.alternative {
-    parts = leveled_parts (is_own r) (λ before after. level_of_rule r ps (own_bound a.side l previous before after)) 0 0 a.alternative.parts;
+    parts = leveled_parts (is_own r) (level_nonterminal (λ before after. level_of_rule r ps (own_bound a.side l previous before after))) 0 0 a.alternative.parts;
     attributes = without_level_attributes a.alternative.attributes;
   }
 

@@ -10,7 +10,7 @@ use Rattle.lalrpop_norm_model.specs.Enabled.{all_places, present}
 use Rattle.lalrpop_norm_model.specs.Occurrences.{own_bound}
 use Rattle.lalrpop_norm_model.specs.Scopes.{Global, globals, Sense, sense_of, resolved_parts, resolved_alternative, resolved_rule, resolved_item, resolved_grammar}
 use Rattle.lalrpop_norm_model.specs.Levels.{Leveled, has_levels, leveled_at, with_levels, levels_of, previous_level}
-use Rattle.lalrpop_norm_model.specs.LevelRules.{is_own, leveled_parts, level_of_rule, level_alternative, step_alternatives, of_level, level_rule, level_rules, level_items, leveled_grammar}
+use Rattle.lalrpop_norm_model.specs.LevelRules.{is_own, leveled_parts, level_nonterminal, level_of_rule, level_alternative, step_alternatives, of_level, level_rule, level_rules, level_items, leveled_grammar}
 use Rattle.lalrpop_norm_model.proofs.LevelLemmas.{of_map, of_present}
 use Rattle.lalrpop_norm_model.proofs.WrittenLemmas.{of_numbered}
 use Rattle.lalrpop_norm_model.proofs.ReadingLemmas.{parts_kept}
@@ -47,7 +47,7 @@ leveled_from r a h =
 
 -- whatever names mean, nothing is left to resolve in the alternative, also with levels
 abbrev pub IsSettled : AlternativeData → Type 0
-IsSettled x = (t : List ℕ → Option Sense) (own : List ℕ → Bool) (level : ℕ → ℕ → List ℕ) → resolved_parts t (leveled_parts own level 0 0 x.parts) ≡ leveled_parts own level 0 0 x.parts
+IsSettled x = (t : List ℕ → Option Sense) (own : List ℕ → Bool) (level : ℕ → ℕ → List ℕ) → resolved_parts t (leveled_parts own (level_nonterminal level) 0 0 x.parts) ≡ leveled_parts own (level_nonterminal level) 0 0 x.parts
 
 module _ (ds : List Global) where
   as_it_is : (r : RuleData) (x : AlternativeData) → resolved_parts (sense_of ds r.args) x.parts ≡ x.parts → resolved_alternative (sense_of ds r.args) x ≡ x

@@ -1,5 +1,6 @@
 pub mod Handed
-pub mod Substituted
+pub mod Occurrences
+pub mod Replacing
 pub mod Grouped
 pub mod Made
 pub mod LeveledItems

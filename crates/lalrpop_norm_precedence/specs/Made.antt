@@ -7,10 +7,9 @@ use Rattle.lalrpop_norm_tree.specs.Symbols.{Kind, nonterminal}
 use Rattle.lalrpop_norm_tree.specs.Items.{AlternativeData, RuleData}
 use Rattle.lalrpop_norm_model.specs.Levels.{Side, left, right, neither, every, Leveled, is_named, greatest}
 use Rattle.lalrpop_norm_model.specs.ClosedTexts.{level_name}
-use Rattle.lalrpop_norm_model.specs.LevelRules.{without_first, is_own}
+use Rattle.lalrpop_norm_model.specs.LevelRules.{without_first, leveled_parts, is_own}
 use Rattle.lalrpop_norm_precedence_steps.specs.Substitutions.{occurrence}
 use Rattle.lalrpop_norm_precedence_steps.specs.Steps.{made_steps}
-use Rattle.lalrpop_norm_precedence.specs.Substituted.{substituted_parts}
 use Rattle.lalrpop_norm_precedence.specs.Grouped.{LevelGroup}
 
 -- what a recursive occurrence becomes in an alternative of an associativity, by how many there are before and after it
@@ -31,7 +30,7 @@ without_level_attributes xs = without_first (codes "assoc") (without_first (code
 -- an alternative with these two kinds for its recursive occurrences
 unfoldable pub rewritten : RuleData → Kind → Kind → Leveled → AlternativeData
 rewritten r current below a = record a.alternative {
-  parts = substituted_parts (is_own r) (kind_by_side a.side current below) 0 0 a.alternative.parts;
+  parts = leveled_parts (is_own r) (kind_by_side a.side current below) 0 0 a.alternative.parts;
   attributes = without_level_attributes a.alternative.attributes;
 }
 

@@ -9,7 +9,8 @@ use lalrpop_norm_tree::grammar::parse_tree::Alternative;
 
 /// Takes out the alternatives of a rule that the features turn off.
 pub fn retain_alternatives<L>(session: &Session<L>, alternatives: &mut Vec<Alternative>)
-    ensures { map alternative_view alternatives.new.items ≡ active_alternatives (features_view session.now.features) (map alternative_view alternatives.old.items) }
+    ensures { map alternative_view alternatives.new.items
+        ≡ active_alternatives (features_view session.now.features) (map alternative_view alternatives.old.items) }
 {
     alternatives.retain(|alternative| cfg_active(session, &alternative.attributes));
 }

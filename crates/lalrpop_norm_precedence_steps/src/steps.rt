@@ -35,7 +35,8 @@ pub fn push_step(
     previous: Option<u32>,
     alternatives: &mut Vec<Alternative>,
 ) -> Result<(), NoMemory>
-    ensures { OnOk result (map alternative_view alternatives.new.items ≡ map alternative_view alternatives.old.items ++ made_steps (rule_view head.now) highest previous) }
+    ensures { OnOk result (map alternative_view alternatives.new.items
+        ≡ map alternative_view alternatives.old.items ++ made_steps (rule_view head.now) highest previous) }
 {
     match previous {
         None => Ok(()),

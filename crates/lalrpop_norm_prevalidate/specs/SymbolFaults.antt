@@ -6,8 +6,9 @@ use Rattle.std.specs.Cmp.Lexicographic.{slice_cmp}
 use Rattle.lalrpop_norm_tree_names.specs.declared.names.Span.{Span}
 use Rattle.lalrpop_norm_tree_names.specs.declared.names.TerminalString.{TerminalString}
 use Rattle.lalrpop_norm_tree_names.specs.declared.names.TerminalString.TheVariants.{Literal, Bare, Error}
-use Rattle.lalrpop_norm_tree.specs.Symbols.{Kind, group, ambiguous_id, terminal, nonterminal, call, repeated, chosen, named}
-use Rattle.lalrpop_norm_tree.specs.Symbols.{tupled, lookahead, lookbehind, error_terminal, Part, at, Parts, no_parts, part_and}
+use Rattle.lalrpop_norm_tree.specs.Symbols.{Kind, group, terminal, call, named, lookahead, lookbehind, error_terminal}
+use Rattle.lalrpop_norm_tree.specs.Symbols.{Part, at, Parts, no_parts, part_and}
+use Rattle.lalrpop_norm_tree.specs.Traversal.{fold_kind, fold_part, fold_parts}
 use Rattle.lalrpop_norm_faults.specs.declared.kind.FaultKind.TheVariants.{ErrorWithAscent, MacroWithoutArguments, NoLocation}
 use Rattle.lalrpop_norm_faults.specs.declared.kind.FaultKind.TheVariants.{WrittenErrorTerminal, ChosenWithNamed, NameTwice}
 use Rattle.lalrpop_norm_prevalidate.specs.declared.prevalidate.Surroundings.{Surroundings}
@@ -79,27 +80,24 @@ repeated_name_faults (Some n) = (NameTwice, n.1) ∷ []
 abbrev pub beside_faults : Parts → List Fault
 beside_faults ps = mixed_faults (first_chosen ps) (has_named ps) ++ repeated_name_faults (least_twice ps)
 
-abbrev mutual
-  pub kind_faults : Surroundings → Span → Kind → List Fault
-  kind_faults c s (group ps) = parts_faults c ps ++ beside_faults ps
-  kind_faults c s (ambiguous_id a) = []
-  kind_faults c s (terminal t) = terminal_faults s t
-  kind_faults c s (nonterminal n) = []
-  kind_faults c s (call m ps) = call_faults s ps ++ parts_faults c ps
-  kind_faults c s (repeated op p) = part_faults c p
-  kind_faults c s (chosen p) = part_faults c p
-  kind_faults c s (named n p) = part_faults c p
-  kind_faults c s (tupled ps p) = part_faults c p
-  kind_faults c s lookahead = fault_if c.lacks_location (NoLocation, s)
-  kind_faults c s lookbehind = fault_if c.lacks_location (NoLocation, s)
-  kind_faults c s error_terminal = fault_if c.has_ascent (ErrorWithAscent, s)
+-- the faults of a symbol itself, with those of what is inside of it
+abbrev pub own_faults : Surroundings → Span → Kind → List Fault → List Fault
+own_faults c s (group ps) inside = inside ++ beside_faults ps
+own_faults c s (terminal t) inside = terminal_faults s t
+own_faults c s (call m ps) inside = call_faults s ps ++ inside
+own_faults c s lookahead inside = fault_if c.lacks_location (NoLocation, s)
+own_faults c s lookbehind inside = fault_if c.lacks_location (NoLocation, s)
+own_faults c s error_terminal inside = fault_if c.has_ascent (ErrorWithAscent, s)
+own_faults c s _ inside = inside
 
-  pub part_faults : Surroundings → Part → List Fault
-  part_faults c (at s k) = kind_faults c s k
+abbrev pub kind_faults : Surroundings → Span → Kind → List Fault
+kind_faults c = fold_kind (own_faults c) [] (λ xs ys. xs ++ ys)
 
-  pub parts_faults : Surroundings → Parts → List Fault
-  parts_faults c no_parts = []
-  parts_faults c (part_and p ps) = part_faults c p ++ parts_faults c ps
+abbrev pub part_faults : Surroundings → Part → List Fault
+part_faults c = fold_part (own_faults c) [] (λ xs ys. xs ++ ys)
+
+abbrev pub parts_faults : Surroundings → Parts → List Fault
+parts_faults c = fold_parts (own_faults c) [] (λ xs ys. xs ++ ys)
 
 -- the symbols of one alternative or group
 abbrev pub list_faults : Surroundings → Parts → List Fault

@@ -35,8 +35,10 @@ pub fn remove_disabled_traced<L>(
     session: &Session<L>,
     grammar: Grammar,
 ) -> NormResult<(Grammar, Vec<Vec<Origin>>)>
-    ensures grammar { RefusesOr result [] (λ r. grammar_view r.0 ≡ enabled_grammar (features_view session.now.features) (grammar_view grammar)) }
-    ensures origins { IfOk result (λ r. origin_lists r.1.items ≡ enabled_origins (features_view session.now.features) (grammar_view grammar)) }
+    ensures grammar { RefusesOr result []
+        (λ r. grammar_view r.0 ≡ enabled_grammar (features_view session.now.features) (grammar_view grammar)) }
+    ensures origins { IfOk result
+        (λ r. origin_lists r.1.items ≡ enabled_origins (features_view session.now.features) (grammar_view grammar)) }
     ensures shaped { IfOk result (λ r. IsShaped (grammar_view r.0).items (origin_lists r.1.items)) }
 {
     let origins = enabled_origins(alloc, session, &grammar)?;
@@ -81,7 +83,8 @@ fn trim<L>(session: &Session<L>, item: &mut GrammarItem)
 }
 
 fn trim_enum<L>(session: &Session<L>, tokens: &mut Option<EnumToken>)
-    ensures { option_map enum_token_view tokens.new ≡ option_map (enabled_enum (features_view session.now.features)) (option_map enum_token_view tokens.old) }
+    ensures { option_map enum_token_view tokens.new
+        ≡ option_map (enabled_enum (features_view session.now.features)) (option_map enum_token_view tokens.old) }
 {
     match tokens {
         Some(tokens) => retain_conversions(session, &mut tokens.conversions),
@@ -90,7 +93,8 @@ fn trim_enum<L>(session: &Session<L>, tokens: &mut Option<EnumToken>)
 }
 
 fn retain_conversions<L>(session: &Session<L>, conversions: &mut Vec<Conversion>)
-    ensures { map conversion_view conversions.new.items ≡ active_conversions (features_view session.now.features) (map conversion_view conversions.old.items) }
+    ensures { map conversion_view conversions.new.items
+        ≡ active_conversions (features_view session.now.features) (map conversion_view conversions.old.items) }
 {
     conversions.retain(|conversion| cfg_active(session, &conversion.attributes));
 }

@@ -6,7 +6,9 @@ ghost use Rattle.lalrpop_norm_tree_parts.specs.Bounds.{where_clause_view};
 ghost use Rattle.lalrpop_norm_tree.specs.Items.{extern_token_view, grammar_view, item_view};
 ghost use Rattle.lalrpop_norm_tree.specs.Types.{parameter_view, type_view};
 ghost use Rattle.lalrpop_norm_faults.specs.Faults.{Refuses};
-ghost use Rattle.lalrpop_norm_prevalidate.specs.GrammarFaults.{is_match, is_extern, item_faults, items_faults, ascent_named, ascent_asked, lacks_location, surroundings_of, blocks_in, unknown_grammar_faults, parameter_faults, clause_faults, validate_faults};
+ghost use Rattle.lalrpop_norm_prevalidate.specs.GrammarFaults.{is_match, is_extern, item_faults, items_faults, ascent_named, ascent_asked};
+ghost use Rattle.lalrpop_norm_prevalidate.specs.GrammarFaults.{lacks_location, surroundings_of, blocks_in, unknown_grammar_faults};
+ghost use Rattle.lalrpop_norm_prevalidate.specs.GrammarFaults.{parameter_faults, clause_faults, validate_faults};
 
 mod alternatives;
 mod malformed;

@@ -2,7 +2,8 @@
 ghost use Rattle.std.specs.Prelude.{◌≡◌, not};
 ghost use Rattle.lalrpop_norm_tree_parts.specs.Attributes.{attribute_view, attributes_view};
 ghost use Rattle.lalrpop_norm_faults.specs.Faults.{Refuses, fault_if};
-ghost use Rattle.lalrpop_norm_prevalidate_attributes.specs.AttributeFaults.{alternative_attribute_faults, alternative_attributes_faults, is_known_on_alternative};
+ghost use Rattle.lalrpop_norm_prevalidate_attributes.specs.AttributeFaults.{alternative_attribute_faults, alternative_attributes_faults};
+ghost use Rattle.lalrpop_norm_prevalidate_attributes.specs.AttributeFaults.{is_known_on_alternative};
 
 use crate::cfg::check_cfg;
 use lalrpop_norm_faults::{FaultKind, NormResult, refusal};
@@ -16,7 +17,8 @@ fn is_known(name: &str) -> bool
 }
 
 fn check_known(alloc: Global, attribute: &Attribute) -> NormResult<()>
-    ensures { Refuses result (fault_if (not (is_known_on_alternative attribute.now.id)) (FaultKind.AlternativeAttribute, attribute.now.id_span)) }
+    ensures { Refuses result (fault_if (not (is_known_on_alternative attribute.now.id))
+        (FaultKind.AlternativeAttribute, attribute.now.id_span)) }
 {
     let name = &attribute.id;
     if !is_known(name.as_str()) {

@@ -2,7 +2,9 @@
 ghost use Rattle.std.specs.Prelude.{◌≡◌, [], ◌∷◌};
 ghost use Rattle.lalrpop_norm_tree_parts.specs.Attributes.{argument_view, attribute_view, attributes_view};
 ghost use Rattle.lalrpop_norm_faults.specs.Faults.{Refuses, IsFirst};
-ghost use Rattle.lalrpop_norm_prevalidate_attributes.specs.CfgFaults.{test_of, test_faults, test_argument_faults, first_test_faults, empty_faults, tests_faults, cfg_faults, attribute_cfg_faults, all_cfg_faults};
+ghost use Rattle.lalrpop_norm_prevalidate_attributes.specs.CfgFaults.{test_of, test_faults, test_argument_faults, first_test_faults};
+ghost use Rattle.lalrpop_norm_prevalidate_attributes.specs.CfgFaults.{empty_faults, tests_faults, cfg_faults, attribute_cfg_faults};
+ghost use Rattle.lalrpop_norm_prevalidate_attributes.specs.CfgFaults.{all_cfg_faults};
 
 use lalrpop_norm_faults::{FaultKind, NormFailure, NormResult, refusal};
 use lalrpop_norm_tree_names::names::Span;

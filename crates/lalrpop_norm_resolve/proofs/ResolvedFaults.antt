@@ -2,7 +2,7 @@
 use Rattle.std.proofs.Common.{◌≡◌, ℕ, suc, List, [], ◌∷◌, ◌++◌, Option, Some, None, map, refl, ap, ◌∙◌}
 use Rattle.std.specs.Prelude.{flat_map}
 use Rattle.lalrpop_norm_tree_names.specs.declared.names.Span.{Span}
-use Rattle.lalrpop_norm_tree.specs.Symbols.{Kind, Part, Parts, group, ambiguous_id, terminal, nonterminal, call, repeated, chosen, named, tupled, lookahead, lookbehind, error_terminal, at, no_parts, part_and}
+use Rattle.lalrpop_norm_tree.specs.Symbols.{Kind, Part, Parts, group, ambiguous_id, nonterminal, call, repeated, chosen, named, tupled, at, no_parts, part_and}
 use Rattle.lalrpop_norm_tree.specs.Items.{AlternativeData, ItemData, GrammarData, match_item, extern_item, intern_item, rule_item, use_item}
 use Rattle.lalrpop_norm_model.specs.Scopes.{a_rule, a_macro, a_terminal, Global, globals, Sense, an_argument, a_global, by_sense, sense_of, resolved_kind, resolved_part, resolved_parts, resolved_alternative, resolved_item, resolved_grammar}
 use Rattle.lalrpop_norm_model.proofs.ResolvedLemmas.{same_globals}
@@ -26,7 +26,6 @@ module _ (sense : List ℕ → Option Sense) where
     kind_gone : (s : Span) (k : Kind) → kind_name_faults sense s k ≡ [] → kind_name_faults sense s (resolved_kind sense k) ≡ []
     kind_gone s (group ps) h = parts_gone ps h
     kind_gone s (ambiguous_id a) h = id_gone s a (sense a) refl h
-    kind_gone s (terminal t) h = refl
     kind_gone s (nonterminal n) h = h
     kind_gone s (call n ps) h =
         both_none _ _ (ap (λ c. macro_name_faults s c (sense n)) (same_count ps) ∙ left_none (macro_name_faults s (parts_count ps) (sense n)) (parts_name_faults sense ps) h)
@@ -35,9 +34,7 @@ module _ (sense : List ℕ → Option Sense) where
     kind_gone s (chosen p) h = part_gone p h
     kind_gone s (named n p) h = part_gone p h
     kind_gone s (tupled ns p) h = part_gone p h
-    kind_gone s lookahead h = refl
-    kind_gone s lookbehind h = refl
-    kind_gone s error_terminal h = refl
+    kind_gone s _ h = refl
 
     part_gone : (p : Part) → part_name_faults sense p ≡ [] → part_name_faults sense (resolved_part sense p) ≡ []
     part_gone (at s k) h = kind_gone s k h

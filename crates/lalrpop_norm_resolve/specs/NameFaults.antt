@@ -5,8 +5,8 @@ use Rattle.std.specs.Prelude.{None, is_some, nat_eq}
 use Rattle.lalrpop_norm_tree_names.specs.declared.names.Span.{Span}
 use Rattle.lalrpop_norm_tree_names.specs.declared.names.NonterminalString.{NonterminalString}
 use Rattle.lalrpop_norm_tree.specs.declared.items.Condition.{Condition}
-use Rattle.lalrpop_norm_tree.specs.Symbols.{Kind, Part, Parts, group, ambiguous_id, terminal, nonterminal, call, repeated, chosen}
-use Rattle.lalrpop_norm_tree.specs.Symbols.{named, tupled, lookahead, lookbehind, error_terminal, at, no_parts, part_and}
+use Rattle.lalrpop_norm_tree.specs.Symbols.{Kind, Part, Parts, ambiguous_id, nonterminal, call, no_parts, part_and}
+use Rattle.lalrpop_norm_tree.specs.Traversal.{fold_kind, fold_part, fold_parts}
 use Rattle.lalrpop_norm_tree.specs.Items.{AlternativeData, RuleData, ItemData, GrammarData, match_item, extern_item, intern_item}
 use Rattle.lalrpop_norm_tree.specs.Items.{rule_item, use_item}
 use Rattle.lalrpop_norm_faults.specs.declared.kind.FaultKind.TheVariants.{NameDeclaredTwice, ArgumentTwice, NoDefinition}
@@ -68,28 +68,22 @@ abbrev pub parts_count : Parts → ℕ
 parts_count no_parts = zero
 parts_count (part_and p ps) = suc (parts_count ps)
 
+-- the faults of a symbol's own name, before those of what is inside of it
+abbrev pub own_name_faults : (List ℕ → Option Sense) → Span → Kind → List Fault → List Fault
+own_name_faults sense s (ambiguous_id a) inside = id_faults s (sense a)
+own_name_faults sense s (nonterminal n) inside = nonterminal_faults s (sense n)
+own_name_faults sense s (call n ps) inside = macro_name_faults s (parts_count ps) (sense n) ++ inside
+own_name_faults sense s _ inside = inside
+
 -- the names in a symbol, in reading order; of a call the macro before the arguments
-abbrev mutual
-  pub kind_name_faults : (List ℕ → Option Sense) → Span → Kind → List Fault
-  kind_name_faults sense s (group ps) = parts_name_faults sense ps
-  kind_name_faults sense s (ambiguous_id a) = id_faults s (sense a)
-  kind_name_faults sense s (terminal t) = []
-  kind_name_faults sense s (nonterminal n) = nonterminal_faults s (sense n)
-  kind_name_faults sense s (call n ps) = macro_name_faults s (parts_count ps) (sense n) ++ parts_name_faults sense ps
-  kind_name_faults sense s (repeated op p) = part_name_faults sense p
-  kind_name_faults sense s (chosen p) = part_name_faults sense p
-  kind_name_faults sense s (named n p) = part_name_faults sense p
-  kind_name_faults sense s (tupled ns p) = part_name_faults sense p
-  kind_name_faults sense s lookahead = []
-  kind_name_faults sense s lookbehind = []
-  kind_name_faults sense s error_terminal = []
+abbrev pub kind_name_faults : (List ℕ → Option Sense) → Span → Kind → List Fault
+kind_name_faults sense = fold_kind (own_name_faults sense) [] (λ xs ys. xs ++ ys)
 
-  pub part_name_faults : (List ℕ → Option Sense) → Part → List Fault
-  part_name_faults sense (at s k) = kind_name_faults sense s k
+abbrev pub part_name_faults : (List ℕ → Option Sense) → Part → List Fault
+part_name_faults sense = fold_part (own_name_faults sense) [] (λ xs ys. xs ++ ys)
 
-  pub parts_name_faults : (List ℕ → Option Sense) → Parts → List Fault
-  parts_name_faults sense no_parts = []
-  parts_name_faults sense (part_and p ps) = part_name_faults sense p ++ parts_name_faults sense ps
+abbrev pub parts_name_faults : (List ℕ → Option Sense) → Parts → List Fault
+parts_name_faults sense = fold_parts (own_name_faults sense) [] (λ xs ys. xs ++ ys)
 
 unfoldable pub alternative_name_faults : (List ℕ → Option Sense) → AlternativeData → List Fault
 alternative_name_faults sense a = condition_faults sense a.condition ++ parts_name_faults sense a.parts

@@ -36,7 +36,8 @@ pub struct Resolved {
 ///
 /// Errors: those of `resolve`, F25 to F32; `Memory`.
 pub fn resolve_names(alloc: Global, mut grammar: Grammar) -> NormResult<Resolved>
-    ensures resolves { RefusesOr result (resolve_faults (grammar_view grammar)) (λ r. grammar_view r.grammar ≡ resolved_grammar (grammar_view grammar)) }
+    ensures resolves { RefusesOr result (resolve_faults (grammar_view grammar))
+        (λ r. grammar_view r.grammar ≡ resolved_grammar (grammar_view grammar)) }
     ensures names { IfOk result (λ r. table_rows r.names ≡ all_rows [] (globals (grammar_view grammar))) }
 {
     let names = resolve_in_place(alloc, &mut grammar.items)?;
@@ -45,7 +46,8 @@ pub fn resolve_names(alloc: Global, mut grammar: Grammar) -> NormResult<Resolved
 
 fn resolve_in_place(alloc: Global, items: &mut [GrammarItem]) -> NormResult<GlobalNames>
     ensures refuses { Refuses result (names_faults (map item_view items.old)) }
-    ensures resolves { OnOk result (map item_view items.new ≡ map (resolved_item (items_globals (map item_view items.old))) (map item_view items.old)) }
+    ensures resolves { OnOk result (map item_view items.new
+        ≡ map (resolved_item (items_globals (map item_view items.old))) (map item_view items.old)) }
     ensures names { IfOk result (λ n. table_rows n ≡ all_rows [] (items_globals (map item_view items.old))) }
 {
     let globals = globals_of(alloc, items)?;

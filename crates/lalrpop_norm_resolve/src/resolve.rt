@@ -54,7 +54,8 @@ pub(crate) type GlobalTable = HashMap<Atom, Def, Seeded>;
 /// argument that is named twice, at the rule, and a name that is not in scope or means the wrong thing, at its symbol or
 /// condition. The grammar is consumed, also if it is rejected. The other error is a failed allocation.
 pub fn resolve(alloc: Global, grammar: Grammar) -> NormResult<Grammar>
-    ensures resolves { RefusesOr result (resolve_faults (grammar_view grammar)) (λ g. grammar_view g ≡ resolved_grammar (grammar_view grammar)) }
+    ensures resolves { RefusesOr result (resolve_faults (grammar_view grammar))
+        (λ g. grammar_view g ≡ resolved_grammar (grammar_view grammar)) }
     // resolving what it answers finds no fault and changes nothing
     ensures once { IfOk result (λ g. (resolve_faults (grammar_view g) ≡ []) × (resolved_grammar (grammar_view g) ≡ grammar_view g)) }
 {

@@ -40,7 +40,8 @@ use std::collections::BTreeSet;
 /// has no entry; F42 (`BadRegex`), F43 (`RegexFeature`) or F44 (`Ambiguity`) at a literal that the lexer rejects; F45
 /// (`InputLifetime`) or F46 (`InputParameter`) where the grammar declares these names. `Memory`.
 pub fn validate<L: Lexer>(alloc: Global, lexer: &L, grammar: Grammar) -> NormResult<Grammar>
-    ensures refuses { RefusesAmong (StandsAtLexer (L.relations lexer.now) (grammar_view grammar)) result (token_findings (grammar_view grammar)) }
+    ensures refuses { RefusesAmong (StandsAtLexer (L.relations lexer.now) (grammar_view grammar)) result
+        (token_findings (grammar_view grammar)) }
     ensures checked { IfOk result (λ h. IsChecked (L.relations lexer.now) (grammar_view grammar) (grammar_view h)) }
 {
     match tokens_of(alloc, lexer, &grammar)? {
@@ -55,8 +56,10 @@ fn tokens_of<L: Lexer>(
     lexer: &L,
     grammar: &Grammar,
 ) -> NormResult<Option<InternToken>>
-    ensures { RefusesAmongOr (StandsAtLexer (L.relations lexer.now) (grammar_view grammar.now)) result (token_findings (grammar_view grammar.now))
-        (λ t. GetsTokens (extern_enum (grammar_view grammar.now)) (L.relations lexer.now) (grammar_view grammar.now) (option_map intern_token_view t)) }
+    ensures { RefusesAmongOr (StandsAtLexer (L.relations lexer.now) (grammar_view grammar.now)) result
+        (token_findings (grammar_view grammar.now))
+        (λ t. GetsTokens (extern_enum (grammar_view grammar.now)) (L.relations lexer.now) (grammar_view grammar.now)
+        (option_map intern_token_view t)) }
 {
     let uses = uses_of(alloc, &grammar.items)?;
     tokens_by(alloc, lexer, grammar, &uses)
@@ -72,8 +75,10 @@ fn tokens_by<L: Lexer>(
     uses: &[Use],
 ) -> NormResult<Option<InternToken>>
     requires { uses.now ≡ places_used (grammar_view grammar.now) }
-    ensures { RefusesAmongOr (StandsAtLexer (L.relations lexer.now) (grammar_view grammar.now)) result (token_findings (grammar_view grammar.now))
-        (λ t. GetsTokens (extern_enum (grammar_view grammar.now)) (L.relations lexer.now) (grammar_view grammar.now) (option_map intern_token_view t)) }
+    ensures { RefusesAmongOr (StandsAtLexer (L.relations lexer.now) (grammar_view grammar.now)) result
+        (token_findings (grammar_view grammar.now))
+        (λ t. GetsTokens (extern_enum (grammar_view grammar.now)) (L.relations lexer.now) (grammar_view grammar.now)
+        (option_map intern_token_view t)) }
 {
     match grammar.enum_token() {
         Some(tokens) => {

@@ -18,7 +18,7 @@ use Rattle.lalrpop_norm_tree.specs.declared.types.TypeRef.{TypeRef}
 use Rattle.lalrpop_norm_tree.specs.LoweredTypes.{repr_of}
 use Rattle.lalrpop_norm_tree.specs.Types.{type_view}
 use Rattle.lalrpop_norm_model.specs.TerminalTypes.{row_for, type_of_chosen}
-use Rattle.lalrpop_norm_tyinfer_table.specs.TokenTypes.{rows_seen}
+use Rattle.lalrpop_norm_tyinfer_steps.specs.TokenTypes.{rows_seen}
 
 -- what a pattern selects once its selected parts are put through f
 module _ {T V : Type 0} (f : T → V) where

@@ -9,9 +9,9 @@ use Rattle.lalrpop_norm_faults.specs.Faults.{Fault}
 use Rattle.lalrpop_norm_faults.proofs.FaultLemmas.{at_drop_item}
 use Rattle.lalrpop_norm_repr.specs.Tables.{TypeTable}
 use Rattle.lalrpop_norm_model.specs.TypeTables.{both}
-use Rattle.lalrpop_norm_tyinfer_table.specs.declared.type_sources.TypeSource.{TypeSource}
-use Rattle.lalrpop_norm_tyinfer_table.specs.Clauses.{clause_view, clause_in, first_in}
-use Rattle.lalrpop_norm_tyinfer_table.proofs.ValueLemmas.{before}
+use Rattle.lalrpop_norm_tyinfer_steps.specs.declared.type_sources.TypeSource.{TypeSource}
+use Rattle.lalrpop_norm_tyinfer_steps.specs.Clauses.{clause_view, clause_in, first_in}
+use Rattle.lalrpop_norm_tyinfer_steps.proofs.ValueLemmas.{before}
 
 pub next_mapped : {X Y Z : Type 0} (f : X → Z) (g : Y → Z) (ys : List Y) (i : ℕ) (y : Y) (xs : List X) (x : X) → i < length ys → y ≡ get_or ys i y → f x ≡ g y →
     map f xs ≡ map g (take i ys) → map f (xs ++ x ∷ []) ≡ map g (take (i + 1) ys)

@@ -4,11 +4,11 @@ use Rattle.std.proofs.lemmas.Bool.Decides.{eqb_tells}
 use Rattle.lalrpop_norm_theory.proofs.BoolLemmas.{or_true}
 use Rattle.lalrpop_norm_theory.specs.Rounds.{In}
 use Rattle.lalrpop_norm_repr.specs.Tables.{TypeTable}
-use Rattle.lalrpop_norm_tyinfer_table.specs.declared.stops.Stops.{Stops}
-use Rattle.lalrpop_norm_tyinfer_table.specs.declared.waiting.Waiting.{Waiting}
-use Rattle.lalrpop_norm_tyinfer_table.specs.Visits.{Seen}
-use Rattle.lalrpop_norm_tyinfer_table.specs.Waiting.{has, Waits, Wakes, Watches}
-use Rattle.lalrpop_norm_tyinfer_table.proofs.RoundLemmas.{Midway}
+use Rattle.lalrpop_norm_tyinfer_steps.specs.declared.stops.Stops.{Stops}
+use Rattle.lalrpop_norm_tyinfer_steps.specs.declared.waiting.Waiting.{Waiting}
+use Rattle.lalrpop_norm_tyinfer_steps.specs.Visits.{Seen}
+use Rattle.lalrpop_norm_tyinfer_steps.specs.Waiting.{has, Waits, Wakes, Watches}
+use Rattle.lalrpop_norm_tyinfer_steps.proofs.RoundLemmas.{Midway}
 
 pub midway_first : (ps : _) (tt : TypeTable) (ss : List Seen) (stops : Stops) (now next : Waiting) → Watches ps tt ss stops → Waits ps tt ss now →
     ((k : ℕ) → has next k ≡ false) → Midway ps tt tt ss stops 0 now next

@@ -5,7 +5,7 @@ use Rattle.lalrpop_norm_tree.specs.declared.symbol.Symbol.{Symbol}
 use Rattle.lalrpop_norm_tree.specs.Symbols.{kind_view}
 use Rattle.lalrpop_norm_tree_parts.specs.Reprs.{tuple}
 use Rattle.lalrpop_norm_repr.specs.Tables.{TypeTable}
-use Rattle.lalrpop_norm_tyinfer_table.specs.Clauses.{kinds_in, sources_in}
+use Rattle.lalrpop_norm_tyinfer_steps.specs.Clauses.{kinds_in, sources_in}
 
 pub many_sources : (tt : TypeTable) (ts : List (ℕ × Bor Symbol)) → (length ts ≡ 1 → ⊥) →
     option_map tuple (kinds_in tt (map (λ (s : ℕ × Bor Symbol). kind_view s.1.now.kind) ts)) ≡ sources_in tt (map (λ (s : ℕ × Bor Symbol). kind_view s.1.now.kind) ts)

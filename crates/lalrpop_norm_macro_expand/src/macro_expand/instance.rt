@@ -4,13 +4,12 @@ ghost use Rattle.lalrpop_norm_tree.specs.Symbols.{parts_view};
 ghost use Rattle.lalrpop_norm_tree.specs.Items.{AlternativeData, alternative_view, rule_view};
 ghost use Rattle.lalrpop_norm_faults.specs.Faults.{Refuses, RefusesOr};
 ghost use Rattle.lalrpop_norm_conditions.specs.Conditions.{comparison};
-ghost use Rattle.lalrpop_norm_model.specs.MadeRules.{argument_kind};
 ghost use Rattle.lalrpop_norm_model.specs.Replaced.{all_replaced};
-ghost use Rattle.lalrpop_norm_macro_expand_rules.specs.Bound.{AreByNumber};
+ghost use Rattle.lalrpop_norm_macro_expand_rules.specs.Bound.{argument_in, AreByNumber};
 ghost use Rattle.lalrpop_norm_macro_expand_rules.specs.Conditions.{value_faults, instance_faults};
 ghost use Rattle.lalrpop_norm_macro_expand_rules.specs.Macros.{HasNumbers};
-ghost use Rattle.lalrpop_norm_macro_expand.specs.Kept.{kept_place, kept_places};
-ghost use Rattle.lalrpop_norm_macro_expand.specs.Making.{kept_of, instance_shape};
+ghost use Rattle.lalrpop_norm_macro_expand.specs.Kept.{kept_places, kept_place_in, kept_places_in};
+ghost use Rattle.lalrpop_norm_macro_expand.specs.Making.{kept_in, instance_shape};
 
 use lalrpop_norm_faults::NormResult;
 use lalrpop_norm_macro_expand_rules::alternatives::{copied_alternative, instance_type};
@@ -41,11 +40,11 @@ fn add_alternative(
     kept: &mut Kept,
 ) -> NormResult<()>
     requires numbers { AreByNumber bindings.now }
-    ensures refuses { Refuses result (value_faults (argument_kind bindings.now.names.now (parts_view bindings.now.symbols.now)) alternative.now.condition) }
+    ensures refuses { Refuses result (value_faults (argument_in bindings.now) alternative.now.condition) }
     ensures adds { OnOk result (map alternative_view kept.new.alternatives.items
-        ≡ map alternative_view kept.old.alternatives.items ++ kept_of head.now.span bindings.now.names.now (parts_view bindings.now.symbols.now) (alternative_view alternative.now)) }
+        ≡ map alternative_view kept.old.alternatives.items ++ kept_in bindings.now head.now.span (alternative_view alternative.now)) }
     ensures places { OnOk result (kept.new.places.items
-        ≡ kept.old.places.items ++ kept_place comparison bindings.now.names.now (parts_view bindings.now.symbols.now) place (alternative_view alternative.now)) }
+        ≡ kept.old.places.items ++ kept_place_in bindings.now place (alternative_view alternative.now)) }
 {
     let keeps = is_kept(alloc, bindings, &head.name, &alternative.condition)?;
     if keeps {
@@ -64,9 +63,11 @@ fn instance_alternatives(
     alternatives: &[Alternative],
 ) -> NormResult<Kept>
     requires numbers { AreByNumber bindings.now }
-    ensures { RefusesOr result (flat_map (λ (a : AlternativeData). value_faults (argument_kind bindings.now.names.now (parts_view bindings.now.symbols.now)) a.condition) (map alternative_view alternatives.now))
-        (λ kept. (map alternative_view kept.alternatives.items ≡ flat_map (kept_of head.now.span bindings.now.names.now (parts_view bindings.now.symbols.now)) (map alternative_view alternatives.now))
-        × (kept.places.items ≡ kept_places comparison bindings.now.names.now (parts_view bindings.now.symbols.now) 0 (map alternative_view alternatives.now))) }
+    ensures { RefusesOr result
+        (flat_map (λ (a : AlternativeData). value_faults (argument_in bindings.now) a.condition) (map alternative_view alternatives.now))
+        (λ kept. (map alternative_view kept.alternatives.items
+        ≡ flat_map (kept_in bindings.now head.now.span) (map alternative_view alternatives.now))
+        × (kept.places.items ≡ kept_places_in bindings.now (map alternative_view alternatives.now))) }
 {
     let mut kept = Kept {
         alternatives: Vec::new(alloc),
@@ -100,7 +101,9 @@ pub(super) fn instance_rule(
     requires replaced { all_replaced (parts_view arguments.now) ≡ parts_view arguments.now }
     ensures { RefusesOr result (instance_faults (rule_view called.now.definition) (parts_view arguments.now))
         (λ i. (rule_view i.rule ≡ instance_shape head.name head.span (rule_view called.now.definition) (parts_view arguments.now))
-        × (i.kept.items ≡ kept_places comparison called.now.definition.args.items (parts_view arguments.now) 0 (rule_view called.now.definition).alternatives)) }
+        × (i.kept.items
+        ≡ kept_places comparison called.now.definition.args.items (parts_view arguments.now) 0
+        (rule_view called.now.definition).alternatives)) }
 {
     let definition = &called.definition;
     let names: &[NonterminalString] = &definition.args;

@@ -2,7 +2,8 @@
 ghost use Rattle.std.specs.Prelude.{◌≡◌, ◌++◌, IfOk, OnOk, flat_map, option_map, option_to_list, slice_get};
 ghost use Rattle.lalrpop_norm_origins.specs.Origins.{origin_view, origins_view, origin_lists};
 ghost use Rattle.lalrpop_norm_nodes.specs.Tables.{wholes_in, IsNodeTable};
-ghost use Rattle.lalrpop_norm_macro_expand.specs.TracedRules.{list_under, origin_at, at_places, shown_list, called_lists, unary_lists, leaf_lists, node_lists, made_list};
+ghost use Rattle.lalrpop_norm_macro_expand.specs.TracedRules.{list_under, origin_at, at_places, shown_list, called_lists, unary_lists};
+ghost use Rattle.lalrpop_norm_macro_expand.specs.TracedRules.{leaf_lists, node_lists, made_list};
 
 use super::Expanded;
 use super::make::MadeSymbol;
@@ -139,7 +140,8 @@ fn add_made(
     lists: &mut Vec<Vec<Origin>>,
 ) -> Result<(), NoMemory>
     requires { IsNodeTable table.now }
-    ensures { OnOk result (origin_lists lists.new.items ≡ origin_lists lists.old.items ++ made_list (list_under macros.now) (wholes_in table.now) made.now) }
+    ensures { OnOk result (origin_lists lists.new.items
+        ≡ origin_lists lists.old.items ++ made_list (list_under macros.now) (wholes_in table.now) made.now) }
 {
     match symbol_origins(alloc, table, macros, made)? {
         Some(origins) => {
@@ -159,7 +161,8 @@ pub(super) fn add_all_made(
 ) -> Result<(), NoMemory>
     requires { IsNodeTable expanded.now.table }
     ensures { OnOk result (origin_lists lists.new.items
-        ≡ origin_lists lists.old.items ++ flat_map (made_list (list_under macros.now) (wholes_in expanded.now.table)) expanded.now.made.items) }
+        ≡ origin_lists lists.old.items
+        ++ flat_map (made_list (list_under macros.now) (wholes_in expanded.now.table)) expanded.now.made.items) }
 {
     for symbol in &expanded.made {
         add_made(alloc, &expanded.table, macros, symbol, lists)?;

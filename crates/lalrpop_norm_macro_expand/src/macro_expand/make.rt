@@ -1,5 +1,5 @@
 //! The rules that symbols are desugared to.
-ghost use Rattle.std.specs.Prelude.{◌≡◌, ℕ, List, [], ◌∷◌, ◌++◌, Some, IfOk, IfSome, OnOk, map, flat_map, reverse, option_map, option_to_list};
+ghost use Rattle.std.specs.Prelude.{◌≡◌, ℕ, List, [], ◌∷◌, ◌++◌, Some, IfOk, IfSome, OnOk, map, option_to_list};
 ghost use Rattle.lalrpop_norm_tree.specs.Symbols.{at, group, call, repeated, kind_view, parts_view, expr_view, macro_view, symbol_view};
 ghost use Rattle.lalrpop_norm_tree.specs.SymbolTexts.{kind_text};
 ghost use Rattle.lalrpop_norm_tree.specs.Items.{item_view, rule_item, rule_view};
@@ -16,11 +16,13 @@ ghost use Rattle.lalrpop_norm_nodes.specs.declared.given.Given.{Given};
 ghost use Rattle.lalrpop_norm_nodes.specs.Wholes.{Whole, kind_at};
 ghost use Rattle.lalrpop_norm_macro_expand_rules.specs.Conditions.{called_faults, instance_faults};
 ghost use Rattle.lalrpop_norm_macro_expand_rules.specs.Macros.{macros_in, HasNumbers, AreByName};
-ghost use Rattle.lalrpop_norm_macro_expand_rules.specs.Pending.{unread_rule, item_of, filling_of, given_numbered, whole_numbered, shown_numbered, filling_view, pending_view, IsReadable, AreReadable};
+ghost use Rattle.lalrpop_norm_macro_expand_rules.specs.Pending.{unread_rule, item_of, filling_of, given_numbered, whole_numbered};
+ghost use Rattle.lalrpop_norm_macro_expand_rules.specs.Pending.{shown_numbered, filling_view, pending_view, IsReadable, AreReadable};
 ghost use Rattle.lalrpop_norm_macro_expand.specs.Expansion.{unmade, unmade_repeat};
 ghost use Rattle.lalrpop_norm_macro_expand.specs.Kept.{kept_by, kept_by_call};
-ghost use Rattle.lalrpop_norm_macro_expand.specs.Made.{made_view, made_for};
+ghost use Rattle.lalrpop_norm_macro_expand.specs.Made.{made_view};
 ghost use Rattle.lalrpop_norm_macro_expand.specs.Making.{instance_shape, call_pending, hole, repeat_pending, pending_of, pending_for};
+ghost use Rattle.lalrpop_norm_macro_expand.specs.Making.{pending_list, round_pending, round_unmade, round_made};
 
 use super::instance::instance_rule;
 use lalrpop_norm_faults::{FaultKind, NormResult, refusal};
@@ -169,7 +171,8 @@ fn repeat_of<'m>(
     requires shallow { IsShallow (wholes_in table.now) number (repeated repeat.old.op (symbol_view repeat.old.symbol)) }
     ensures refuses { Refuses result (unmade_repeat head.span repeat.old.op (symbol_view repeat.old.symbol)) }
     ensures pending { IfOk result (λ p. pending_view (wholes_in table.now) p
-        ≡ repeat_pending head.name head.span repeat.old.op (repeated_kind (kind_at (wholes_in table.now) number)) (symbol_view repeat.old.symbol)) }
+        ≡ repeat_pending head.name head.span repeat.old.op
+        (repeated_kind (kind_at (wholes_in table.now) number)) (symbol_view repeat.old.symbol)) }
     ensures readable { IfOk result (λ p. IsReadable (wholes_in table.now) p.filling) }
 {
     check_times(alloc, &head.name, head.span, repeat.op, &repeat.symbol)?;
@@ -188,8 +191,11 @@ fn with_given<'m>(
     rule: NonterminalData,
     given: Vec<Given>,
 ) -> Pending<'m>
-    ensures pending { (ws : List Whole) → pending_view ws result ≡ unread_rule (rule_view rule) (whole_numbered ws called.now.numbers given.items) (shown_numbered called.now.numbers given.items) }
-    ensures readable { (ws : List Whole) → ((n : List ℕ) (g : Given) → given_numbered called.now.numbers given.items n ≡ Some g → IsGiven ws g) → IsReadable ws result.filling }
+    ensures pending { (ws : List Whole) → pending_view ws result
+        ≡ unread_rule (rule_view rule) (whole_numbered ws called.now.numbers given.items) (shown_numbered called.now.numbers given.items) }
+    ensures readable { (ws : List Whole)
+        → ((n : List ℕ) (g : Given) → given_numbered called.now.numbers given.items n ≡ Some g → IsGiven ws g)
+        → IsReadable ws result.filling }
 {
     let filling = Filling {
         numbers: &called.numbers,
@@ -221,7 +227,8 @@ fn instance_of<'m>(
         (argument_kind called.now.definition.args.items (call_parts (kind_at (wholes_in table.now) number)))
         (argument_kind called.now.definition.args.items (parts_view arguments.items))) }
     ensures readable { IfOk result (λ o. IsReadable (wholes_in table.now) o.0.filling) }
-    ensures kept { IfOk result (λ o. o.1.items ≡ kept_by_call comparison (Some (rule_view called.now.definition)) (parts_view arguments.items)) }
+    ensures kept { IfOk result (λ o. o.1.items
+        ≡ kept_by_call comparison (Some (rule_view called.now.definition)) (parts_view arguments.items)) }
 {
     let instance = instance_rule(alloc, head, called, &arguments)?;
     let given = given_by_call(alloc, table, number, arguments)?;
@@ -271,11 +278,14 @@ fn called_of<'m>(
     requires macros { AreByName macros.now }
     requires table { IsNodeTable table.now }
     requires shallow { IsShallow (wholes_in table.now) number (call (macro_view instance.old).0 (macro_view instance.old).1) }
-    ensures refuses { Refuses result (called_faults (macro_named (macros_in macros.now) (macro_view instance.old).0) (macro_view instance.old).1) }
-    ensures pending { IfOk result (λ m. option_to_list (option_map (pending_view (wholes_in table.now)) m.pending)
-        ≡ call_pending head.name head.span (macro_named (macros_in macros.now) (macro_view instance.old).0) (call_parts (kind_at (wholes_in table.now) number)) (macro_view instance.old).1) }
+    ensures refuses { Refuses result
+        (called_faults (macro_named (macros_in macros.now) (macro_view instance.old).0) (macro_view instance.old).1) }
+    ensures pending { IfOk result (λ m. pending_list (wholes_in table.now) m.pending
+        ≡ call_pending head.name head.span (macro_named (macros_in macros.now) (macro_view instance.old).0)
+        (call_parts (kind_at (wholes_in table.now) number)) (macro_view instance.old).1) }
     ensures readable { IfOk result (λ m. IfSome m.pending (λ p. IsReadable (wholes_in table.now) p.filling)) }
-    ensures kept { IfOk result (λ m. m.kept.items ≡ kept_by_call comparison (macro_named (macros_in macros.now) (macro_view instance.old).0) (macro_view instance.old).1) }
+    ensures kept { IfOk result (λ m. m.kept.items
+        ≡ kept_by_call comparison (macro_named (macros_in macros.now) (macro_view instance.old).0) (macro_view instance.old).1) }
 {
     match macros.find(&instance.name) {
         Some(called) => {
@@ -308,10 +318,11 @@ fn rule_of<'m>(
     requires shallow { IsShallow (wholes_in table.now) number (kind_view kind.old) }
     requires name { head.name ≡ kind_text (kind_view kind.old) }
     ensures refuses { Refuses result (unmade (macros_in makers.now.macros) (at head.span (kind_view kind.old))) }
-    ensures pending { IfOk result (λ m. option_to_list (option_map (pending_view (wholes_in table.now)) m.pending)
+    ensures pending { IfOk result (λ m. pending_list (wholes_in table.now) m.pending
         ≡ pending_of (macros_in makers.now.macros) (kind_at (wholes_in table.now) number) (at head.span (kind_view kind.old))) }
     ensures readable { IfOk result (λ m. IfSome m.pending (λ p. IsReadable (wholes_in table.now) p.filling)) }
-    ensures kept { IfOk result (λ m. m.kept.items ≡ kept_by comparison (macros_in makers.now.macros) (at head.span (kind_view kind.old))) }
+    ensures kept { IfOk result (λ m. m.kept.items
+        ≡ kept_by comparison (macros_in makers.now.macros) (at head.span (kind_view kind.old))) }
 {
     match kind {
         SymbolKind::Expr(expr) => {
@@ -355,7 +366,8 @@ fn pending_rule<'m>(
     requires table { IsNodeTable table.now }
     requires waiting { IsWaiting (wholes_in table.now) waiting }
     ensures refuses { Refuses result (unmade (macros_in makers.now.macros) (symbol_view waiting.symbol)) }
-    ensures pending { IfOk result (λ m. option_to_list (option_map (pending_view (wholes_in table.now)) m.pending) ≡ pending_for (wholes_in table.now) (macros_in makers.now.macros) waiting) }
+    ensures pending { IfOk result (λ m. pending_list (wholes_in table.now) m.pending
+        ≡ pending_for (wholes_in table.now) (macros_in makers.now.macros) waiting) }
     ensures readable { IfOk result (λ m. IfSome m.pending (λ p. IsReadable (wholes_in table.now) p.filling)) }
     ensures kept { IfOk result (λ m. m.kept.items ≡ kept_by comparison (macros_in makers.now.macros) (symbol_view waiting.symbol)) }
 {
@@ -388,8 +400,10 @@ fn add_rule<'m>(
     fillings: &mut Vec<Option<Filling<'m>>>,
 ) -> Result<(), NoMemory>
     ensures made { OnOk result (map made_view made.new.items ≡ map made_view made.old.items ++ (number, making.entry.kept.items) ∷ []) }
-    ensures rule { OnOk result (map item_view done.new.items ≡ map item_view done.old.items ++ map (λ p. rule_item (rule_view p.rule)) (option_to_list making.entry.pending)) }
-    ensures filling { OnOk result (fillings.new.items ≡ fillings.old.items ++ map (λ p. p.filling) (option_to_list making.entry.pending)) }
+    ensures rule { OnOk result (map item_view done.new.items
+        ≡ map item_view done.old.items ++ map (λ p. rule_item (rule_view p.rule)) (option_to_list making.entry.pending)) }
+    ensures filling { OnOk result (fillings.new.items
+        ≡ fillings.old.items ++ map (λ p. p.filling) (option_to_list making.entry.pending)) }
 {
     let Making { pending, kept } = making;
     made.push(MadeSymbol { number, kept })?;
@@ -417,11 +431,14 @@ pub(super) fn make_rules<'m>(
     requires hole { IsNumbering (map (λ n. n.0) hole) makers.now.hole }
     requires table { IsNodeTable table.now }
     requires waiting { AreWaiting (wholes_in table.now) waiting.items }
-    ensures refuses { Refuses result (flat_map (λ w. unmade (macros_in makers.now.macros) (symbol_view w.symbol)) (reverse waiting.items)) }
-    ensures rules { OnOk result (map item_view done.new.items ≡ map item_view done.old.items ++ map item_of (flat_map (pending_for (wholes_in table.now) (macros_in makers.now.macros)) (reverse waiting.items))) }
-    ensures fillings { IfOk result (λ fs. map (filling_view (wholes_in table.now)) fs.items ≡ map filling_of (flat_map (pending_for (wholes_in table.now) (macros_in makers.now.macros)) (reverse waiting.items))) }
+    ensures refuses { Refuses result (round_unmade (macros_in makers.now.macros) waiting.items) }
+    ensures rules { OnOk result (map item_view done.new.items
+        ≡ map item_view done.old.items ++ map item_of (round_pending (wholes_in table.now) (macros_in makers.now.macros) waiting.items)) }
+    ensures fillings { IfOk result (λ fs. map (filling_view (wholes_in table.now)) fs.items
+        ≡ map filling_of (round_pending (wholes_in table.now) (macros_in makers.now.macros) waiting.items)) }
     ensures readable { IfOk result (λ fs. AreReadable (wholes_in table.now) fs.items) }
-    ensures made { OnOk result (map made_view made.new.items ≡ map made_view made.old.items ++ map (made_for (macros_in makers.now.macros)) (reverse waiting.items)) }
+    ensures made { OnOk result (map made_view made.new.items
+        ≡ map made_view made.old.items ++ round_made (macros_in makers.now.macros) waiting.items) }
 {
     let mut waiting = waiting;
     waiting.reverse();

@@ -39,8 +39,10 @@ fn add_list(
     origins: Vec<Origin>,
     lists: &mut RuleLists,
 ) -> Result<(), NoMemory>
-    ensures plain { OnOk result (origin_lists lists.new.plain.items ≡ origin_lists lists.old.plain.items ++ plain_list (rule_view rule.now, origins_view origins.items)) }
-    ensures macros { OnOk result (map list_view lists.new.macros.items ≡ map list_view lists.old.macros.items ++ macro_list (rule_view rule.now, origins_view origins.items)) }
+    ensures plain { OnOk result (origin_lists lists.new.plain.items
+        ≡ origin_lists lists.old.plain.items ++ plain_list (rule_view rule.now, origins_view origins.items)) }
+    ensures macros { OnOk result (map list_view lists.new.macros.items
+        ≡ map list_view lists.old.macros.items ++ macro_list (rule_view rule.now, origins_view origins.items)) }
 {
     if rule.is_macro_def() {
         let name = rule.name.0.again();
@@ -57,8 +59,10 @@ pub(super) fn rule_lists(
     grammar: &Grammar,
     origins: Vec<Vec<Origin>>,
 ) -> Result<RuleLists, NoMemory>
-    ensures plain { IfOk result (λ l. origin_lists l.plain.items ≡ flat_map plain_list (traced_rules (grammar_view grammar.now).items (origin_lists origins.items))) }
-    ensures macros { IfOk result (λ l. map list_view l.macros.items ≡ flat_map macro_list (traced_rules (grammar_view grammar.now).items (origin_lists origins.items))) }
+    ensures plain { IfOk result (λ l. origin_lists l.plain.items
+        ≡ flat_map plain_list (traced_rules (grammar_view grammar.now).items (origin_lists origins.items))) }
+    ensures macros { IfOk result (λ l. map list_view l.macros.items
+        ≡ flat_map macro_list (traced_rules (grammar_view grammar.now).items (origin_lists origins.items))) }
 {
     let mut lists = RuleLists {
         plain: Vec::new(alloc),

@@ -32,7 +32,8 @@ fn plain_lists(
 ) -> Result<Vec<Vec<Origin>>, NoMemory>
     requires { IsNodeTable expanded.now.table }
     ensures { IfOk result (λ oss. origin_lists oss.items
-        ≡ origin_lists lists.plain.items ++ flat_map (made_list (first_list_of (map list_view lists.macros.items)) (wholes_in expanded.now.table)) expanded.now.made.items) }
+        ≡ origin_lists lists.plain.items
+        ++ flat_map (made_list (first_list_of (map list_view lists.macros.items)) (wholes_in expanded.now.table)) expanded.now.made.items) }
 {
     let RuleLists { plain, macros } = lists;
     let named = by_name(alloc, macros)?;
@@ -59,7 +60,8 @@ pub fn expand_resolved_traced(
     // No round after the first `limit` has a new symbol.
     ensures whole { IfOk result (λ made. IsEnded comparison (grammar_view grammar) limit) }
     ensures plain { IfOk result (λ made. grammar_view made.0 ≡ plain_grammar comparison (grammar_view grammar) limit) }
-    ensures origins { IfOk result (λ made. origin_lists made.1.items ≡ expanded_lists comparison (grammar_view grammar) (origin_lists origins.items) limit) }
+    ensures origins { IfOk result (λ made. origin_lists made.1.items
+        ≡ expanded_lists comparison (grammar_view grammar) (origin_lists origins.items) limit) }
     ensures shaped { IfOk result (λ made. IsShaped (grammar_view made.0).items (origin_lists made.1.items)) }
 {
     let lists = rule_lists(alloc, &grammar, origins)?;
@@ -84,7 +86,8 @@ pub fn expand_macros_traced(
     // No round after the first `limit` has a new symbol.
     ensures whole { IfOk result (λ made. IsEnded comparison (resolved_grammar (grammar_view grammar)) limit) }
     ensures plain { IfOk result (λ made. grammar_view made.0 ≡ plain_grammar comparison (resolved_grammar (grammar_view grammar)) limit) }
-    ensures origins { IfOk result (λ made. origin_lists made.1.items ≡ expanded_lists comparison (resolved_grammar (grammar_view grammar)) (origin_lists origins.items) limit) }
+    ensures origins { IfOk result (λ made. origin_lists made.1.items
+        ≡ expanded_lists comparison (resolved_grammar (grammar_view grammar)) (origin_lists origins.items) limit) }
     ensures shaped { IfOk result (λ made. IsShaped (grammar_view made.0).items (origin_lists made.1.items)) }
 {
     let resolved = resolve(alloc, grammar)?;

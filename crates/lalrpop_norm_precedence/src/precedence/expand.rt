@@ -26,7 +26,8 @@ use std::alloc::Global;
 /// the name of a level is taken (F25), or a macro has two levels or more (F29, at the macro): a level names the one below
 /// it without arguments. The grammar is consumed, also if it is rejected. The other error is a failed allocation.
 pub fn expand_precedence(alloc: Global, grammar: Grammar) -> NormResult<Grammar>
-    ensures expands { RefusesOr result (precedence_faults (grammar_view grammar)) (λ g. grammar_view g ≡ leveled_grammar (resolved_grammar (grammar_view grammar))) }
+    ensures expands { RefusesOr result (precedence_faults (grammar_view grammar))
+        (λ g. grammar_view g ≡ leveled_grammar (resolved_grammar (grammar_view grammar))) }
     // nothing is left to resolve
     ensures resolved { IfOk result (λ g. resolved_grammar (grammar_view g) ≡ grammar_view g) }
 {

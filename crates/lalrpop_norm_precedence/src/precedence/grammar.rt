@@ -26,7 +26,8 @@ use std::mem;
 /// [`read_levels`](super::read_levels). The grammar is consumed, also if it is rejected.
 /// Names of levels that are taken, and macros with several levels, are not looked for.
 pub fn expand_levels(alloc: Global, grammar: Grammar) -> NormResult<Grammar>
-    ensures { RefusesOr result (grammar_level_faults (grammar_view grammar)) (λ g. grammar_view g ≡ leveled_grammar (grammar_view grammar)) }
+    ensures { RefusesOr result (grammar_level_faults (grammar_view grammar))
+        (λ g. grammar_view g ≡ leveled_grammar (grammar_view grammar)) }
 {
     let leveled = make_levels(alloc, grammar)?;
     Ok(leveled.grammar)
@@ -41,7 +42,8 @@ pub(super) struct Leveled {
 
 /// The grammar with levels, and the names generated for it.
 pub(super) fn make_levels(alloc: Global, grammar: Grammar) -> NormResult<Leveled>
-    ensures value { RefusesOr result (grammar_level_faults (grammar_view grammar)) (λ l. grammar_view l.grammar ≡ leveled_grammar (grammar_view grammar)) }
+    ensures value { RefusesOr result (grammar_level_faults (grammar_view grammar))
+        (λ l. grammar_view l.grammar ≡ leveled_grammar (grammar_view grammar)) }
     ensures names { IfOk result (λ l. l.made.items ≡ grammar_made_names (grammar_view grammar)) }
 {
     let mut leveled = grammar;

@@ -9,7 +9,8 @@ ghost use Rattle.lalrpop_norm_model.specs.LevelRules.{leveled_grammar};
 ghost use Rattle.lalrpop_norm_model.specs.Stated.{IsRising};
 ghost use Rattle.lalrpop_norm_origins.specs.Origins.{origin_view, origins_view, origin_lists};
 ghost use Rattle.lalrpop_norm_precedence.specs.PrecedenceFaults.{precedence_faults};
-ghost use Rattle.lalrpop_norm_precedence.specs.LevelLists.{levels_held, picked, pushed_origin, stepped_lists, IsShaped, rule_level_lists, leveled_lists};
+ghost use Rattle.lalrpop_norm_precedence.specs.LevelLists.{levels_held, picked, pushed_origin, stepped_lists};
+ghost use Rattle.lalrpop_norm_precedence.specs.LevelLists.{IsShaped, rule_level_lists, leveled_lists};
 
 use super::expand::expand_precedence;
 use super::groups::{listed, rank};
@@ -30,9 +31,11 @@ pub fn expand_precedence_traced(
     origins: Vec<Vec<Origin>>,
 ) -> NormResult<(Grammar, Vec<Vec<Origin>>)>
     requires shape { IsShaped (grammar_view grammar).items (origin_lists origins.items) }
-    ensures expands { RefusesOr result (precedence_faults (grammar_view grammar)) (λ r. grammar_view r.0 ≡ leveled_grammar (resolved_grammar (grammar_view grammar))) }
+    ensures expands { RefusesOr result (precedence_faults (grammar_view grammar))
+        (λ r. grammar_view r.0 ≡ leveled_grammar (resolved_grammar (grammar_view grammar))) }
     ensures resolved { IfOk result (λ r. resolved_grammar (grammar_view r.0) ≡ grammar_view r.0) }
-    ensures origins { IfOk result (λ r. origin_lists r.1.items ≡ leveled_lists (grammar_view grammar).items (origin_lists origins.items)) }
+    ensures origins { IfOk result (λ r. origin_lists r.1.items
+        ≡ leveled_lists (grammar_view grammar).items (origin_lists origins.items)) }
     ensures shaped { IfOk result (λ r. IsShaped (grammar_view r.0).items (origin_lists r.1.items)) }
 {
     let lists = level_lists(alloc, &grammar.items, origins)?;
@@ -69,7 +72,8 @@ fn add_lists(
     lists: &mut Vec<Vec<Origin>>,
 ) -> Result<(), NoMemory>
     requires { length (rule_view rule.now).alternatives ≡ length (origins_view own.items) }
-    ensures { OnOk result (origin_lists lists.new.items ≡ origin_lists lists.old.items ++ rule_level_lists (rule_view rule.now) (origins_view own.items)) }
+    ensures { OnOk result (origin_lists lists.new.items
+        ≡ origin_lists lists.old.items ++ rule_level_lists (rule_view rule.now) (origins_view own.items)) }
 {
     if !has_levels(&rule.alternatives) {
         lists.push(own)?;
@@ -113,7 +117,8 @@ fn grouped(
     requires rising { IsRising rising.now }
     requires there { (l : ℕ) → In l (levels_held levels.now) → In l rising.now }
     requires counted { length levels.now ≡ vec_len origins }
-    ensures { IfOk result (λ groups. origin_lists groups.items ≡ map (λ l. picked l (levels_held levels.now) (origins_view origins.items)) rising.now) }
+    ensures { IfOk result (λ groups. origin_lists groups.items
+        ≡ map (λ l. picked l (levels_held levels.now) (origins_view origins.items)) rising.now) }
 {
     let mut groups = empty_groups(alloc, rising)?;
     let mut i = 0;
@@ -135,7 +140,8 @@ fn push_to(groups: &mut Vec<Vec<Origin>>, i: usize, origin: Origin) -> Result<()
 
 /// Adds the groups, with the origin of a step at the end of each but the first.
 fn push_stepped(groups: Vec<Vec<Origin>>, lists: &mut Vec<Vec<Origin>>) -> Result<(), NoMemory>
-    ensures { OnOk result (origin_lists lists.new.items ≡ origin_lists lists.old.items ++ stepped_lists false (origin_lists groups.items)) }
+    ensures { OnOk result (origin_lists lists.new.items
+        ≡ origin_lists lists.old.items ++ stepped_lists false (origin_lists groups.items)) }
 {
     let mut is_higher = false;
     for group in groups {

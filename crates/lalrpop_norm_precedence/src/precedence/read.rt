@@ -6,7 +6,9 @@ ghost use Rattle.lalrpop_norm_tree.specs.Items.{alternative_view, rule_view};
 ghost use Rattle.lalrpop_norm_faults.specs.Faults.{Refuses, RefusesOr};
 ghost use Rattle.lalrpop_norm_model.specs.Levels.{first_named, value_under, number_of, side_named, stated_level, stated_side};
 ghost use Rattle.lalrpop_norm_precedence_steps.specs.Sides.{side_of};
-ghost use Rattle.lalrpop_norm_precedence_steps.specs.LevelFaults.{level_argument_faults, side_argument_faults, level_attribute_faults, lesser_level, least, is_narrow, is_barred, barred_faults, lowest_faults, level_faults, levels_and_sides, has_several_levels};
+ghost use Rattle.lalrpop_norm_precedence_steps.specs.LevelFaults.{level_argument_faults, side_argument_faults, level_attribute_faults};
+ghost use Rattle.lalrpop_norm_precedence_steps.specs.LevelFaults.{lesser_level, least, is_narrow, is_barred, barred_faults};
+ghost use Rattle.lalrpop_norm_precedence_steps.specs.LevelFaults.{lowest_faults, level_faults, levels_and_sides, has_several_levels};
 ghost use Rattle.lalrpop_norm_precedence_steps.specs.StatedLevels.{alternative_level_view};
 ghost use Rattle.lalrpop_norm_precedence.specs.Handed.{handed_levels, handed_faults};
 
@@ -26,7 +28,8 @@ use std::alloc::{AllocError, Global};
 /// (F12e); then an associativity on the lowest level (F12f): any if an alternative states that level, any but `all` if it
 /// inherits it; these three at the name of the `assoc`. The other error is `Memory`.
 pub fn read_levels(alloc: Global, rule: &NonterminalData) -> NormResult<Vec<AlternativeLevel>>
-    ensures { RefusesOr result (level_faults (rule_view rule.now)) (λ levels. map alternative_level_view levels.items ≡ levels_and_sides (rule_view rule.now)) }
+    ensures { RefusesOr result (level_faults (rule_view rule.now))
+        (λ levels. map alternative_level_view levels.items ≡ levels_and_sides (rule_view rule.now)) }
 {
     check_first(alloc, &rule.alternatives)?;
     check_attributes(alloc, &rule.alternatives)?;
@@ -180,7 +183,8 @@ pub(super) fn hand_on(
     alloc: Global,
     alternatives: &[Alternative],
 ) -> Result<Vec<AlternativeLevel>, AllocError>
-    ensures { IfOk result (λ levels. map alternative_level_view levels.items ≡ handed_levels None None (map alternative_view alternatives.now)) }
+    ensures { IfOk result (λ levels. map alternative_level_view levels.items
+        ≡ handed_levels None None (map alternative_view alternatives.now)) }
 {
     let mut levels = Vec::with_capacity(alloc, alternatives.len())?;
     let mut level = None;
@@ -245,7 +249,8 @@ fn check_place(alloc: Global, lowest: u32, level: u32, alternative: &Alternative
 }
 
 fn check_barred(alloc: Global, alternative: &Alternative) -> NormResult<()>
-    ensures { Refuses result (barred_faults (alternative_view alternative.now) (first_named (codes "assoc") (attributes_view alternative.now.attributes.items))) }
+    ensures { Refuses result (barred_faults (alternative_view alternative.now)
+        (first_named (codes "assoc") (attributes_view alternative.now.attributes.items))) }
 {
     match first_named(&alternative.attributes, ASSOC_ATTR) {
         Some(attribute) => {

@@ -7,12 +7,13 @@ ghost use Rattle.lalrpop_norm_faults.specs.Faults.{RefusesOr};
 ghost use Rattle.lalrpop_norm_model.specs.Levels.{greater, greatest};
 ghost use Rattle.lalrpop_norm_model.specs.Grammars.{is_nil};
 ghost use Rattle.lalrpop_norm_model.specs.ClosedTexts.{level_name};
-ghost use Rattle.lalrpop_norm_model.specs.LevelRules.{is_own, level_rules};
+ghost use Rattle.lalrpop_norm_model.specs.LevelRules.{leveled_parts, is_own, level_rules};
 ghost use Rattle.lalrpop_norm_precedence_steps.specs.LevelFaults.{level_faults};
-ghost use Rattle.lalrpop_norm_precedence.specs.Substituted.{is_target, substituted_parts};
+ghost use Rattle.lalrpop_norm_precedence.specs.Occurrences.{is_target};
 ghost use Rattle.lalrpop_norm_precedence.specs.Grouped.{LevelGroup, marked_view, group_view};
 ghost use Rattle.lalrpop_norm_precedence_steps.specs.Sides.{side_of};
-ghost use Rattle.lalrpop_norm_precedence.specs.Made.{kind_by_side, less_first, without_level_attributes, top_of, rewritten, made_alternative, made_rule, made_level_rules};
+ghost use Rattle.lalrpop_norm_precedence.specs.Made.{kind_by_side, less_first, without_level_attributes, top_of};
+ghost use Rattle.lalrpop_norm_precedence.specs.Made.{rewritten, made_alternative, made_rule, made_level_rules};
 
 use super::groups::{Group, Marked, group_by_level, mark};
 use super::read::read_levels;
@@ -79,7 +80,8 @@ fn made_rules(
     head: &NonterminalData,
     groups: Vec<Group>,
 ) -> Result<Vec<NonterminalData>, NoMemory>
-    ensures { IfOk result (λ rules. map rule_view rules.items ≡ made_level_rules (rule_view head.now) (top_of (map group_view groups.items)) None (map group_view groups.items)) }
+    ensures { IfOk result (λ rules. map rule_view rules.items
+        ≡ made_level_rules (rule_view head.now) (top_of (map group_view groups.items)) None (map group_view groups.items)) }
 {
     let highest = greatest(&groups).unwrap_or(0);
     let mut rules = Vec::new(alloc);
@@ -100,7 +102,8 @@ fn made_rule(
     previous: Option<u32>,
     group: Group,
 ) -> Result<NonterminalData, NoMemory>
-    ensures { IfOk result (λ r. rule_view r ≡ made_rule (rule_view head.now) highest previous group.level (map marked_view group.alternatives.items)) }
+    ensures { IfOk result (λ r. rule_view r
+        ≡ made_rule (rule_view head.now) highest previous group.level (map marked_view group.alternatives.items)) }
 {
     let level = group.level;
     let name = level_name(alloc, &head.name, highest, level)?;
@@ -158,7 +161,8 @@ fn made_alternative(
     below: &SymbolKind,
     marked: Marked,
 ) -> Result<Alternative, NoMemory>
-    ensures { IfOk result (λ a. alternative_view a ≡ rewritten (rule_view head.now) (kind_view current.now) (kind_view below.now) (marked_view marked)) }
+    ensures { IfOk result (λ a. alternative_view a
+        ≡ rewritten (rule_view head.now) (kind_view current.now) (kind_view below.now) (marked_view marked)) }
 {
     let mut alternative = marked.alternative;
     replace_own(
@@ -212,7 +216,8 @@ fn replace_own(
     symbols: &mut [Symbol],
 ) -> Result<(), NoMemory>
     ensures { OnOk result (parts_view symbols.new
-        ≡ substituted_parts (is_own (rule_view head.now)) (kind_by_side (side_of side) (kind_view current.now) (kind_view below.now)) 0 0 (parts_view symbols.old)) }
+        ≡ leveled_parts (is_own (rule_view head.now))
+        (kind_by_side (side_of side) (kind_view current.now) (kind_view below.now)) 0 0 (parts_view symbols.old)) }
 {
     if is_plain(head) {
         replace_by_side(&head.name, current, below, side, symbols)?;
@@ -230,7 +235,8 @@ fn replace_by_side(
     symbols: &mut [Symbol],
 ) -> Result<(), NoMemory>
     ensures { OnOk result (parts_view symbols.new
-        ≡ substituted_parts (is_target target.now.0) (kind_by_side (side_of side) (kind_view current.now) (kind_view below.now)) 0 0 (parts_view symbols.old)) }
+        ≡ leveled_parts (is_target target.now.0)
+        (kind_by_side (side_of side) (kind_view current.now) (kind_view below.now)) 0 0 (parts_view symbols.old)) }
 {
     replace_nonterm(
         target,

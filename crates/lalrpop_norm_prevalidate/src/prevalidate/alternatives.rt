@@ -3,7 +3,8 @@ ghost use Rattle.std.specs.Prelude.{◌≡◌, option_map};
 ghost use Rattle.lalrpop_norm_tree.specs.Items.{action_view, alternative_view};
 ghost use Rattle.lalrpop_norm_tree.specs.Symbols.{kind_view, parts_view};
 ghost use Rattle.lalrpop_norm_faults.specs.Faults.{Refuses};
-ghost use Rattle.lalrpop_norm_prevalidate.specs.AlternativeFaults.{alternative_faults, place_inside, first_inside, action_faults, between_braces_faults};
+ghost use Rattle.lalrpop_norm_prevalidate.specs.AlternativeFaults.{alternative_faults, place_inside, first_inside};
+ghost use Rattle.lalrpop_norm_prevalidate.specs.AlternativeFaults.{action_faults, between_braces_faults};
 
 use super::Surroundings;
 use super::symbols::validate_list;

@@ -2,7 +2,9 @@
 ghost use Rattle.std.specs.Prelude.{◌≡◌, ◌++◌, IfOk, OnOk, map, flat_map, option_map};
 ghost use Rattle.lalrpop_norm_tree_parts.specs.Attributes.{attribute_view, attributes_view};
 ghost use Rattle.lalrpop_norm_tree.specs.Items.{alternative_view, conversion_view, enum_token_view, grammar_view, item_view, rule_view};
-ghost use Rattle.lalrpop_norm_prevalidate.specs.MalformedCfgs.{malformed_at, malformed_among, malformed_on_alternative, malformed_on_conversion, malformed_in_rule, malformed_in_enum, malformed_in_item, malformed_cfgs};
+ghost use Rattle.lalrpop_norm_prevalidate.specs.MalformedCfgs.{malformed_at, malformed_among, malformed_on_alternative};
+ghost use Rattle.lalrpop_norm_prevalidate.specs.MalformedCfgs.{malformed_on_conversion, malformed_in_rule, malformed_in_enum};
+ghost use Rattle.lalrpop_norm_prevalidate.specs.MalformedCfgs.{malformed_in_item, malformed_cfgs};
 
 use lalrpop_norm_faults::NormFailure;
 use lalrpop_norm_prevalidate_attributes::cfg::check_cfg;

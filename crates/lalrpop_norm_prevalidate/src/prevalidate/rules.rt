@@ -52,7 +52,8 @@ fn check_known(alloc: Global, attribute: &Attribute) -> NormResult<()>
 }
 
 fn check_new(alloc: Global, before: &[Attribute], attribute: &Attribute) -> NormResult<()>
-    ensures { Refuses result (fault_if (is_one_of attribute.now.id (map (λ a. a.id) before.now)) (FaultKind.RepeatedRuleAttribute, attribute.now.id_span)) }
+    ensures { Refuses result (fault_if (is_one_of attribute.now.id (map (λ a. a.id) before.now))
+        (FaultKind.RepeatedRuleAttribute, attribute.now.id_span)) }
 {
     let name = &attribute.id;
     if is_among(name, before) {
@@ -66,7 +67,8 @@ fn check_new(alloc: Global, before: &[Attribute], attribute: &Attribute) -> Norm
 }
 
 fn check_inline(alloc: Global, public: bool, attribute: &Attribute) -> NormResult<()>
-    ensures { Refuses result (fault_if (bytes_eq attribute.now.id (codes "inline") && public) (FaultKind.InlineOnPublic, attribute.now.id_span)) }
+    ensures { Refuses result (fault_if (bytes_eq attribute.now.id (codes "inline") && public)
+        (FaultKind.InlineOnPublic, attribute.now.id_span)) }
 {
     if attribute.id.as_str() == "inline" && public {
         return Err(refusal(

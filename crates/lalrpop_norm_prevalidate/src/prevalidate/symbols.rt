@@ -4,7 +4,9 @@ ghost use Rattle.std.specs.BTreeMap.{get};
 ghost use Rattle.std.specs.Ordering.{nat_cmp};
 ghost use Rattle.std.specs.Cmp.Lexicographic.{slice_cmp};
 ghost use Rattle.lalrpop_norm_faults.specs.Faults.{Refuses, fault_if};
-ghost use Rattle.lalrpop_norm_prevalidate.specs.SymbolFaults.{call_faults, terminal_faults, kind_faults, part_faults, parts_faults, list_faults, beside_faults, name_of, is_that_name, first_chosen, has_named, named_at, placed, again, lesser_name, least_twice};
+ghost use Rattle.lalrpop_norm_prevalidate.specs.SymbolFaults.{call_faults, terminal_faults, kind_faults, part_faults, parts_faults};
+ghost use Rattle.lalrpop_norm_prevalidate.specs.SymbolFaults.{list_faults, beside_faults, name_of, is_that_name, first_chosen, has_named};
+ghost use Rattle.lalrpop_norm_prevalidate.specs.SymbolFaults.{named_at, placed, again, lesser_name, least_twice};
 ghost use Rattle.lalrpop_norm_tree.specs.Symbols.{kind_view, symbol_view, parts_view};
 
 use super::Surroundings;
@@ -270,9 +272,11 @@ fn note<'a>(
     places: &mut BTreeMap<Atom, Span>,
     symbol: &'a Symbol,
 ) -> Result<Option<(&'a Atom, Span)>, NoMemory>
-    ensures found { IfOk result (λ r. option_map (λ r. (r.0.now, r.1)) r ≡ placed (get (slice_cmp nat_cmp) places.old) (name_of (kind_view symbol.now.kind))) }
+    ensures found { IfOk result
+        (λ r. option_map (λ r. (r.0.now, r.1)) r ≡ placed (get (slice_cmp nat_cmp) places.old) (name_of (kind_view symbol.now.kind))) }
     ensures notes { OnOk result ((name : List ℕ) → get (slice_cmp nat_cmp) places.new name
-        ≡ (if is_that_name name (name_of (kind_view symbol.now.kind)) then Some symbol.now.span else get (slice_cmp nat_cmp) places.old name)) }
+        ≡ (if is_that_name name (name_of (kind_view symbol.now.kind)) then Some symbol.now.span
+        else get (slice_cmp nat_cmp) places.old name)) }
 {
     let Some(name) = name_of(&symbol.kind) else {
         return Ok(None);

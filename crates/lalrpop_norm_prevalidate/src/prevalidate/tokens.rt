@@ -1,9 +1,12 @@
 //! Match blocks and extern blocks.
 ghost use Rattle.std.specs.Prelude.{◌≡◌, not, [], map, flat_map, option_map, is_some, if◌then◌else◌};
-ghost use Rattle.lalrpop_norm_tree.specs.Items.{associated_type_view, conversion_view, enum_token_view, extern_token_view, match_contents_view, match_token_view};
+ghost use Rattle.lalrpop_norm_tree.specs.Items.{associated_type_view, conversion_view, enum_token_view, extern_token_view};
+ghost use Rattle.lalrpop_norm_tree.specs.Items.{match_contents_view, match_token_view};
 ghost use Rattle.lalrpop_norm_faults.specs.Faults.{Refuses, fault_if};
 ghost use Rattle.lalrpop_norm_model.specs.Features.{is_one_of};
-ghost use Rattle.lalrpop_norm_prevalidate.specs.GrammarFaults.{mapping_faults, match_beside_extern_faults, match_faults, is_known_type, associated_faults, types_faults, conversion_faults, enum_faults, extern_faults};
+ghost use Rattle.lalrpop_norm_prevalidate.specs.GrammarFaults.{mapping_faults, match_beside_extern_faults, match_faults};
+ghost use Rattle.lalrpop_norm_prevalidate.specs.GrammarFaults.{is_known_type, associated_faults, types_faults, conversion_faults};
+ghost use Rattle.lalrpop_norm_prevalidate.specs.GrammarFaults.{enum_faults, extern_faults};
 
 use super::Blocks;
 use super::rules::check_type;
@@ -144,7 +147,8 @@ fn check_known(alloc: Global, ty: &AssociatedType) -> NormResult<()>
 }
 
 fn check_new(alloc: Global, before: &[AssociatedType], ty: &AssociatedType) -> NormResult<()>
-    ensures { Refuses result (fault_if (is_one_of ty.now.type_name (map (λ t. t.type_name) before.now)) (FaultKind.RepeatedAssociatedType, ty.now.type_span)) }
+    ensures { Refuses result (fault_if (is_one_of ty.now.type_name (map (λ t. t.type_name) before.now))
+        (FaultKind.RepeatedAssociatedType, ty.now.type_span)) }
 {
     let name = &ty.type_name;
     if is_among(name, before) {

@@ -5,7 +5,8 @@ ghost use Rattle.lalrpop_norm_tree_parts.specs.Bounds.{bound_parameter_view, bou
 ghost use Rattle.lalrpop_norm_tree.specs.LoweredTypes.{holds_symbol};
 ghost use Rattle.lalrpop_norm_tree_patterns.specs.Patterns.{pattern_kind_view, pattern_view, patterns_view, fields_view};
 ghost use Rattle.lalrpop_norm_tree.specs.Types.{type_view};
-ghost use Rattle.lalrpop_norm_prevalidate.specs.TypeFaults.{some_holds, parameter_holds, bound_holds, clause_holds, kind_holds, pattern_holds, patterns_hold, fields_hold};
+ghost use Rattle.lalrpop_norm_prevalidate.specs.TypeFaults.{some_holds, parameter_holds, bound_holds, clause_holds};
+ghost use Rattle.lalrpop_norm_prevalidate.specs.TypeFaults.{kind_holds, pattern_holds, patterns_hold, fields_hold};
 
 use lalrpop_norm_tree::grammar::parse_tree::{TypeBound, TypeBoundParameter, TypeRef, WhereClause};
 use lalrpop_norm_tree::grammar::pattern::{FieldPattern, Pattern, PatternKind};

@@ -2,9 +2,11 @@
 ghost use Rattle.std.specs.Prelude.{◌≡◌, [], ◌∷◌, OnOk, flat_map, map, option_map};
 ghost use Rattle.lalrpop_norm_tree.specs.Items.{conversion_view, enum_token_view, item_view, match_contents_view};
 ghost use Rattle.lalrpop_norm_faults.specs.Faults.{IsFirst, Refuses, RefusesOr};
-ghost use Rattle.lalrpop_norm_model.specs.Scopes.{rule_definition, bare_global, match_global, conversions_in, rule_globals, conversion_globals, match_globals};
+ghost use Rattle.lalrpop_norm_model.specs.Scopes.{rule_definition, bare_global, match_global, conversions_in};
+ghost use Rattle.lalrpop_norm_model.specs.Scopes.{rule_globals, conversion_globals, match_globals};
 ghost use Rattle.lalrpop_norm_resolve.specs.NameFaults.{repeated_faults};
-ghost use Rattle.lalrpop_norm_resolve.specs.NameTables.{rows_of, def_of, with_def, with_all, all_rows, row_faults, rows_faults, items_globals, conversion_global};
+ghost use Rattle.lalrpop_norm_resolve.specs.NameTables.{rows_of, def_of, with_def, with_all, all_rows, row_faults};
+ghost use Rattle.lalrpop_norm_resolve.specs.NameTables.{rows_faults, items_globals, conversion_global};
 
 use super::seed::seeded_by;
 use super::{Def, GlobalTable};
@@ -18,7 +20,8 @@ use std::collections::HashMap;
 
 /// The global names of a grammar.
 pub(crate) fn globals_of(alloc: Global, items: &[GrammarItem]) -> NormResult<GlobalTable>
-    ensures { RefusesOr result (repeated_faults [] (items_globals (map item_view items.now))) (λ m. rows_of m ≡ all_rows [] (items_globals (map item_view items.now))) }
+    ensures { RefusesOr result (repeated_faults [] (items_globals (map item_view items.now)))
+        (λ m. rows_of m ≡ all_rows [] (items_globals (map item_view items.now))) }
 {
     let mut globals = HashMap::with_capacity_and_hasher(alloc, items.len(), seeded_by(items))?;
     declare_items(alloc, &mut globals, items)?;
@@ -129,7 +132,8 @@ fn declare_rule(alloc: Global, globals: &mut GlobalTable, item: &GrammarItem) ->
 
 fn declare_rules(alloc: Global, globals: &mut GlobalTable, items: &[GrammarItem]) -> NormResult<()>
     ensures refuses { Refuses result (rows_faults (rows_of globals.old) (flat_map rule_globals (map item_view items.now))) }
-    ensures declares { OnOk result (rows_of globals.new ≡ with_all (rows_of globals.old) (flat_map rule_globals (map item_view items.now))) }
+    ensures declares { OnOk result (rows_of globals.new
+        ≡ with_all (rows_of globals.old) (flat_map rule_globals (map item_view items.now))) }
 {
     for item in items {
         declare_rule(alloc, globals, item)?;
@@ -161,8 +165,10 @@ fn declare_conversions(
     globals: &mut GlobalTable,
     conversions: &[Conversion],
 ) -> NormResult<()>
-    ensures refuses { Refuses result (rows_faults (rows_of globals.old) (flat_map conversion_global (map conversion_view conversions.now))) }
-    ensures declares { OnOk result (rows_of globals.new ≡ with_all (rows_of globals.old) (flat_map conversion_global (map conversion_view conversions.now))) }
+    ensures refuses { Refuses result
+        (rows_faults (rows_of globals.old) (flat_map conversion_global (map conversion_view conversions.now))) }
+    ensures declares { OnOk result (rows_of globals.new
+        ≡ with_all (rows_of globals.old) (flat_map conversion_global (map conversion_view conversions.now))) }
 {
     for conversion in conversions {
         declare_terminal(alloc, globals, &conversion.from, conversion.span)?;
@@ -175,14 +181,13 @@ fn declare_enum(
     globals: &mut GlobalTable,
     tokens: &Option<EnumToken>,
 ) -> NormResult<()>
-    ensures refuses { Refuses result (rows_faults (rows_of globals.old) (flat_map conversion_global (conversions_in (option_map enum_token_view tokens.now)))) }
-    ensures declares { OnOk result (rows_of globals.new ≡ with_all (rows_of globals.old) (flat_map conversion_global (conversions_in (option_map enum_token_view tokens.now)))) }
+    ensures refuses { Refuses result
+        (rows_faults (rows_of globals.old) (flat_map conversion_global (conversions_in (option_map enum_token_view tokens.now)))) }
+    ensures declares { OnOk result (rows_of globals.new
+        ≡ with_all (rows_of globals.old) (flat_map conversion_global (conversions_in (option_map enum_token_view tokens.now)))) }
 {
     match tokens {
-        Some(tokens) => {
-            declare_conversions(alloc, globals, &tokens.conversions)?;
-            Ok(())
-        }
+        Some(tokens) => declare_conversions(alloc, globals, &tokens.conversions),
         None => Ok(()),
     }
 }
@@ -192,10 +197,7 @@ fn declare_extern(alloc: Global, globals: &mut GlobalTable, item: &GrammarItem) 
     ensures declares { OnOk result (rows_of globals.new ≡ with_all (rows_of globals.old) (conversion_globals (item_view item.now))) }
 {
     match item {
-        GrammarItem::ExternToken(token) => {
-            declare_enum(alloc, globals, &token.enum_token)?;
-            Ok(())
-        }
+        GrammarItem::ExternToken(token) => declare_enum(alloc, globals, &token.enum_token),
         GrammarItem::MatchToken(_)
         | GrammarItem::Nonterminal(_)
         | GrammarItem::InternToken(_)
@@ -209,7 +211,8 @@ fn declare_externs(
     items: &[GrammarItem],
 ) -> NormResult<()>
     ensures refuses { Refuses result (rows_faults (rows_of globals.old) (flat_map conversion_globals (map item_view items.now))) }
-    ensures declares { OnOk result (rows_of globals.new ≡ with_all (rows_of globals.old) (flat_map conversion_globals (map item_view items.now))) }
+    ensures declares { OnOk result (rows_of globals.new
+        ≡ with_all (rows_of globals.old) (flat_map conversion_globals (map item_view items.now))) }
 {
     for item in items {
         declare_extern(alloc, globals, item)?;
@@ -223,8 +226,7 @@ fn declare_mapping(alloc: Global, globals: &mut GlobalTable, item: &MatchItem) -
 {
     match item {
         MatchItem::Mapped(_, MatchMapping::Terminal(terminal), span) => {
-            declare_terminal(alloc, globals, terminal, *span)?;
-            Ok(())
+            declare_terminal(alloc, globals, terminal, *span)
         }
         MatchItem::Mapped(_, MatchMapping::Skip, _)
         | MatchItem::Unmapped(_, _)
@@ -244,10 +246,10 @@ fn declare_mappings(alloc: Global, globals: &mut GlobalTable, items: &[MatchItem
 
 fn declare_group(alloc: Global, globals: &mut GlobalTable, group: &MatchContents) -> NormResult<()>
     ensures refuses { Refuses result (rows_faults (rows_of globals.old) (flat_map match_global (match_contents_view group.now))) }
-    ensures declares { OnOk result (rows_of globals.new ≡ with_all (rows_of globals.old) (flat_map match_global (match_contents_view group.now))) }
+    ensures declares { OnOk result (rows_of globals.new
+        ≡ with_all (rows_of globals.old) (flat_map match_global (match_contents_view group.now))) }
 {
-    declare_mappings(alloc, globals, &group.items)?;
-    Ok(())
+    declare_mappings(alloc, globals, &group.items)
 }
 
 fn declare_groups(
@@ -255,8 +257,10 @@ fn declare_groups(
     globals: &mut GlobalTable,
     groups: &[MatchContents],
 ) -> NormResult<()>
-    ensures refuses { Refuses result (rows_faults (rows_of globals.old) (flat_map (flat_map match_global) (map match_contents_view groups.now))) }
-    ensures declares { OnOk result (rows_of globals.new ≡ with_all (rows_of globals.old) (flat_map (flat_map match_global) (map match_contents_view groups.now))) }
+    ensures refuses { Refuses result
+        (rows_faults (rows_of globals.old) (flat_map (flat_map match_global) (map match_contents_view groups.now))) }
+    ensures declares { OnOk result (rows_of globals.new
+        ≡ with_all (rows_of globals.old) (flat_map (flat_map match_global) (map match_contents_view groups.now))) }
 {
     for group in groups {
         declare_group(alloc, globals, group)?;
@@ -269,10 +273,7 @@ fn declare_match(alloc: Global, globals: &mut GlobalTable, item: &GrammarItem) -
     ensures declares { OnOk result (rows_of globals.new ≡ with_all (rows_of globals.old) (match_globals (item_view item.now))) }
 {
     match item {
-        GrammarItem::MatchToken(token) => {
-            declare_groups(alloc, globals, &token.contents)?;
-            Ok(())
-        }
+        GrammarItem::MatchToken(token) => declare_groups(alloc, globals, &token.contents),
         GrammarItem::ExternToken(_)
         | GrammarItem::Nonterminal(_)
         | GrammarItem::InternToken(_)
@@ -286,7 +287,8 @@ fn declare_matches(
     items: &[GrammarItem],
 ) -> NormResult<()>
     ensures refuses { Refuses result (rows_faults (rows_of globals.old) (flat_map match_globals (map item_view items.now))) }
-    ensures declares { OnOk result (rows_of globals.new ≡ with_all (rows_of globals.old) (flat_map match_globals (map item_view items.now))) }
+    ensures declares { OnOk result (rows_of globals.new
+        ≡ with_all (rows_of globals.old) (flat_map match_globals (map item_view items.now))) }
 {
     for item in items {
         declare_match(alloc, globals, item)?;

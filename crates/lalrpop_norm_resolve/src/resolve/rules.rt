@@ -6,7 +6,8 @@ ghost use Rattle.std.specs.Cmp.Lexicographic.{slice_cmp};
 ghost use Rattle.lalrpop_norm_tree.specs.Items.{alternative_view, rule_view};
 ghost use Rattle.lalrpop_norm_faults.specs.Faults.{IsFirst, Refuses, RefusesOr};
 ghost use Rattle.lalrpop_norm_model.specs.Scopes.{is_argument, resolved_alternative};
-ghost use Rattle.lalrpop_norm_resolve.specs.NameFaults.{has_repeated_argument, repeated_argument_faults, tested_faults, condition_faults, alternative_name_faults};
+ghost use Rattle.lalrpop_norm_resolve.specs.NameFaults.{has_repeated_argument, repeated_argument_faults, tested_faults};
+ghost use Rattle.lalrpop_norm_resolve.specs.NameFaults.{condition_faults, alternative_name_faults};
 ghost use Rattle.lalrpop_norm_resolve.specs.NameTables.{sense_seen, sense_in, rule_faults_in, resolved_rule_in};
 
 use super::symbols::{def, resolve_each, unknown};
@@ -101,7 +102,8 @@ fn resolve_alternative(
     alternative: &mut Alternative,
 ) -> NormResult<()>
     ensures refuses { Refuses result (alternative_name_faults (sense_in globals.now args.now) (alternative_view alternative.old)) }
-    ensures resolves { OnOk result (alternative_view alternative.new ≡ resolved_alternative (sense_in globals.now args.now) (alternative_view alternative.old)) }
+    ensures resolves { OnOk result (alternative_view alternative.new
+        ≡ resolved_alternative (sense_in globals.now args.now) (alternative_view alternative.old)) }
 {
     check_condition(alloc, globals, args, &alternative.condition)?;
     resolve_each(alloc, globals, args, &mut alternative.expr.symbols)?;
@@ -114,7 +116,8 @@ fn resolve_alternatives(
     args: &BTreeSet<Atom>,
     alternatives: &mut [Alternative],
 ) -> NormResult<()>
-    ensures refuses { Refuses result (flat_map (alternative_name_faults (sense_in globals.now args.now)) (map alternative_view alternatives.old)) }
+    ensures refuses { Refuses result
+        (flat_map (alternative_name_faults (sense_in globals.now args.now)) (map alternative_view alternatives.old)) }
     ensures resolves { OnOk result (map alternative_view alternatives.new
         ≡ map (resolved_alternative (sense_in globals.now args.now)) (map alternative_view alternatives.old)) }
 {

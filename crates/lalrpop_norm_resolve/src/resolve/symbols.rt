@@ -3,7 +3,8 @@ ghost use Rattle.std.specs.Prelude.{◌≡◌, [], ◌∷◌, OnOk};
 ghost use Rattle.lalrpop_norm_tree.specs.Symbols.{kind_view, symbol_view, repeat_view, parts_view};
 ghost use Rattle.lalrpop_norm_faults.specs.Faults.{IsFirst, Refuses, RefusesOr};
 ghost use Rattle.lalrpop_norm_model.specs.Scopes.{by_sense, resolved_kind, resolved_part, resolved_parts};
-ghost use Rattle.lalrpop_norm_resolve.specs.NameFaults.{id_faults, nonterminal_faults, macro_name_faults, parts_count, kind_name_faults, part_name_faults, parts_name_faults};
+ghost use Rattle.lalrpop_norm_resolve.specs.NameFaults.{id_faults, nonterminal_faults, macro_name_faults, parts_count};
+ghost use Rattle.lalrpop_norm_resolve.specs.NameFaults.{kind_name_faults, part_name_faults, parts_name_faults};
 ghost use Rattle.lalrpop_norm_resolve.specs.NameTables.{rows_of, sense_seen, sense_in};
 
 use super::{Def, GlobalTable};
@@ -276,7 +277,8 @@ fn resolve_boxed(
     symbol: &mut Box<Symbol>,
 ) -> NormResult<()>
     ensures refuses { Refuses result (part_name_faults (sense_in globals.now args.now) (symbol_view symbol.old.value)) }
-    ensures resolves { OnOk result (symbol_view symbol.new.value ≡ resolved_part (sense_in globals.now args.now) (symbol_view symbol.old.value)) }
+    ensures resolves { OnOk result (symbol_view symbol.new.value
+        ≡ resolved_part (sense_in globals.now args.now) (symbol_view symbol.old.value)) }
 {
     resolve_symbol(alloc, globals, args, symbol)
 }
@@ -289,7 +291,8 @@ fn resolve_repeat(
     repeat: &mut Box<RepeatSymbol>,
 ) -> NormResult<()>
     ensures refuses { Refuses result (part_name_faults (sense_in globals.now args.now) (repeat_view repeat.old.value).1) }
-    ensures resolves { OnOk result (repeat_view repeat.new.value ≡ ((repeat_view repeat.old.value).0, resolved_part (sense_in globals.now args.now) (repeat_view repeat.old.value).1)) }
+    ensures resolves { OnOk result (repeat_view repeat.new.value
+        ≡ ((repeat_view repeat.old.value).0, resolved_part (sense_in globals.now args.now) (repeat_view repeat.old.value).1)) }
 {
     resolve_symbol(alloc, globals, args, &mut repeat.symbol)
 }

@@ -39,7 +39,8 @@ fn add_conversions(
     conversions: &[Conversion],
 ) -> NormResult<()>
     ensures refuses { Refuses result (twice_from converted.old.keys (map conversion_view conversions.now)) }
-    ensures adds { OnOk result (converted.new.keys ≡ with_keys terminal_cmp converted.old.keys (terminals_converted (map conversion_view conversions.now))) }
+    ensures adds { OnOk result (converted.new.keys
+        ≡ with_keys terminal_cmp converted.old.keys (terminals_converted (map conversion_view conversions.now))) }
 {
     for conversion in conversions {
         add_name(alloc, converted, &conversion.from, conversion.span)?;

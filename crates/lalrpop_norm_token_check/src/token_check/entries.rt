@@ -2,7 +2,8 @@
 ghost use Rattle.std.specs.Prelude.{◌≡◌, ◌<◌, ◌^◌, [], ◌∷◌, IfSome, OnOk, option_map};
 ghost use Rattle.lalrpop_norm_tree.specs.Items.{match_token_view};
 ghost use Rattle.lalrpop_norm_faults.specs.Faults.{IsFirst, Refuses, RefusesOr, fault_if};
-ghost use Rattle.lalrpop_norm_token_check.specs.Found.{found_view, lacks_entry, with_added, with_terminal, uses_faults, with_uses, found_faults, all_found};
+ghost use Rattle.lalrpop_norm_token_check.specs.Found.{found_view, lacks_entry, with_added, with_terminal};
+ghost use Rattle.lalrpop_norm_token_check.specs.Found.{uses_faults, with_uses, found_faults, all_found};
 
 use super::found::{Found, add_entry, own_mapping};
 use super::matches::add_block;
@@ -54,7 +55,8 @@ fn add_use(
     span: Span,
 ) -> NormResult<()>
     requires { IfSome catch_all (λ p. p < 2 ^ 63) }
-    ensures refuses { Refuses result (fault_if (lacks_entry catch_all (found_view found.old).names terminal.now) (FaultKind.NoMapping, span)) }
+    ensures refuses { Refuses result
+        (fault_if (lacks_entry catch_all (found_view found.old).names terminal.now) (FaultKind.NoMapping, span)) }
     ensures adds { OnOk result (found_view found.new ≡ with_terminal catch_all (found_view found.old) terminal.now span) }
 {
     if found.names.contains(terminal) {

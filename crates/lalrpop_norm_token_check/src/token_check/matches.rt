@@ -2,7 +2,9 @@
 ghost use Rattle.std.specs.Prelude.{◌≡◌, ◌<◌, ◌^◌, OnOk, map, option_map};
 ghost use Rattle.lalrpop_norm_tree.specs.Items.{match_contents_view, match_token_view};
 ghost use Rattle.lalrpop_norm_faults.specs.Faults.{Refuses};
-ghost use Rattle.lalrpop_norm_token_check.specs.Found.{found_view, none_found, mapped_faults, with_mapped, found_item_faults, with_item, found_items_faults, with_items, groups_faults, with_groups, block_faults, with_block};
+ghost use Rattle.lalrpop_norm_token_check.specs.Found.{found_view, none_found, mapped_faults, with_mapped, found_item_faults};
+ghost use Rattle.lalrpop_norm_token_check.specs.Found.{with_item, found_items_faults, with_items, groups_faults};
+ghost use Rattle.lalrpop_norm_token_check.specs.Found.{with_groups, block_faults, with_block};
 
 use super::found::{Found, add_entry, add_name, add_place, own_mapping};
 use lalrpop_norm_faults::NormResult;

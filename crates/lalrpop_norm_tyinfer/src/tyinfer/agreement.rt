@@ -6,18 +6,18 @@ ghost use Rattle.lalrpop_norm_tree_parts.specs.Reprs.{repr_view};
 ghost use Rattle.lalrpop_norm_faults.specs.Faults.{Refuses, fault_if};
 ghost use Rattle.lalrpop_norm_faults.specs.declared.kind.FaultKind.TheVariants.{Disagreement};
 ghost use Rattle.lalrpop_norm_model.specs.InferenceFaults.{is_other};
-ghost use Rattle.lalrpop_norm_tyinfer_table.specs.Numbered.{numbered_table};
-ghost use Rattle.lalrpop_norm_tyinfer_table.specs.TableFaults.{other_in, others_in};
-ghost use Rattle.lalrpop_norm_tyinfer_table.specs.Visits.{plain_rule_view};
+ghost use Rattle.lalrpop_norm_tyinfer_steps.specs.Numbered.{numbered_table};
+ghost use Rattle.lalrpop_norm_tyinfer_steps.specs.TableFaults.{other_in, others_in};
+ghost use Rattle.lalrpop_norm_tyinfer_steps.specs.Visits.{plain_rule_view};
 
 use crate::tyinfer::type_sources::clause_value;
 use lalrpop_norm_faults::{FaultKind, NormResult, refusal};
 use lalrpop_norm_repr::grammar::repr::TypeRepr;
 use lalrpop_norm_tree::grammar::parse_tree::{Alternative, NonterminalString, Span};
-use lalrpop_norm_tyinfer_table::numbered::Numbered;
-use lalrpop_norm_tyinfer_table::rules::PlainRule;
-use lalrpop_norm_tyinfer_table::same::is_same_type;
-use lalrpop_norm_tyinfer_table::type_sources::{RuleClauses, alternative_clause};
+use lalrpop_norm_tyinfer_steps::numbered::Numbered;
+use lalrpop_norm_tyinfer_steps::rules::PlainRule;
+use lalrpop_norm_tyinfer_steps::same::is_same_type;
+use lalrpop_norm_tyinfer_steps::type_sources::{RuleClauses, alternative_clause};
 use std::alloc::Global;
 
 /// Rejects an alternative of a rule without a declared type if it gives another type than the rule has, under any type
@@ -27,7 +27,8 @@ pub(crate) fn check_agreement(
     types: &Numbered,
     rules: &[PlainRule],
 ) -> NormResult<()>
-    ensures { (ps : List TypeParameter) → Refuses result (flat_map (others_in ps (numbered_table types.now)) (map plain_rule_view rules.now)) }
+    ensures { (ps : List TypeParameter) →
+        Refuses result (flat_map (others_in ps (numbered_table types.now)) (map plain_rule_view rules.now)) }
 {
     for rule in rules {
         check_rule(alloc, types, rule)?;
@@ -53,7 +54,8 @@ fn check_alternatives(
     name: &NonterminalString,
     alternatives: &[Alternative],
 ) -> NormResult<()>
-    ensures { (ps : List TypeParameter) → Refuses result (flat_map (other_in ps (numbered_table types.now) name.now.0) (map alternative_view alternatives.now)) }
+    ensures { (ps : List TypeParameter) →
+        Refuses result (flat_map (other_in ps (numbered_table types.now) name.now.0) (map alternative_view alternatives.now)) }
 {
     for alternative in alternatives {
         check_alternative(alloc, types, name, alternative)?;
@@ -67,7 +69,8 @@ fn check_alternative(
     name: &NonterminalString,
     alternative: &Alternative,
 ) -> NormResult<()>
-    ensures { (ps : List TypeParameter) → Refuses result (other_in ps (numbered_table types.now) name.now.0 (alternative_view alternative.now)) }
+    ensures { (ps : List TypeParameter) →
+        Refuses result (other_in ps (numbered_table types.now) name.now.0 (alternative_view alternative.now)) }
 {
     match alternative_clause(alloc, alternative)? {
         Some(clause) => {
@@ -89,7 +92,8 @@ fn check_same(
     given: &Option<TypeRepr>,
     own: Option<&TypeRepr>,
 ) -> NormResult<()>
-    ensures { Refuses result (fault_if (is_other (option_map repr_view given.now) (option_map (λ t. repr_view t.now) own.entry)) (Disagreement, span)) }
+    ensures { Refuses result
+        (fault_if (is_other (option_map repr_view given.now) (option_map (λ t. repr_view t.now) own.entry)) (Disagreement, span)) }
 {
     match (given, own) {
         (None, _) => Ok(()),

@@ -1,20 +1,20 @@
 //! Rounds in which rules take their types.
 ghost use Rattle.std.specs.Prelude.{◌≡◌, ◌<◌, [], ◌∷◌, ℕ, List, None, IfOk, OnOk, is_some, length, map};
 ghost use Rattle.lalrpop_norm_theory.specs.Rounds.{IsDistinct};
-ghost use Rattle.lalrpop_norm_tyinfer_table.specs.Needs.{names_seen};
-ghost use Rattle.lalrpop_norm_tyinfer_table.specs.Numbered.{numbered_table, HasSameNumbers, IsNumberOf, NumbersRules};
-ghost use Rattle.lalrpop_norm_tyinfer_table.specs.Stops.{IsStops, typed_at};
-ghost use Rattle.lalrpop_norm_tyinfer_table.specs.TableValues.{type_by_name};
-ghost use Rattle.lalrpop_norm_tyinfer_table.specs.Visits.{rule_seen, EndsRounds, Passes};
-ghost use Rattle.lalrpop_norm_tyinfer_table.specs.Waiting.{VisitsOne, Waits, Wakes, Watches};
+ghost use Rattle.lalrpop_norm_tyinfer_steps.specs.Needs.{names_seen};
+ghost use Rattle.lalrpop_norm_tyinfer_steps.specs.Numbered.{numbered_table, HasSameNumbers, IsNumberOf, NumbersRules};
+ghost use Rattle.lalrpop_norm_tyinfer_steps.specs.Stops.{IsStops, typed_at};
+ghost use Rattle.lalrpop_norm_tyinfer_steps.specs.TableValues.{type_by_name};
+ghost use Rattle.lalrpop_norm_tyinfer_steps.specs.Visits.{rule_seen, EndsRounds, Passes};
+ghost use Rattle.lalrpop_norm_tyinfer_steps.specs.Waiting.{VisitsOne, Waits, Wakes, Watches};
 
 use crate::tyinfer::type_sources::first_value;
 use lalrpop_norm_tree::grammar::parse_tree::{NoMemory, TypeParameter};
-use lalrpop_norm_tyinfer_table::needs::needs_of;
-use lalrpop_norm_tyinfer_table::numbered::Numbered;
-use lalrpop_norm_tyinfer_table::rules::PlainRule;
-use lalrpop_norm_tyinfer_table::stops::Stops;
-use lalrpop_norm_tyinfer_table::waiting::Waiting;
+use lalrpop_norm_tyinfer_steps::needs::needs_of;
+use lalrpop_norm_tyinfer_steps::numbered::Numbered;
+use lalrpop_norm_tyinfer_steps::rules::PlainRule;
+use lalrpop_norm_tyinfer_steps::stops::Stops;
+use lalrpop_norm_tyinfer_steps::waiting::Waiting;
 use std::alloc::Global;
 
 /// Puts some indices on the worklists: those behind the index on that of this round, the others on that of the next one.
@@ -60,7 +60,8 @@ fn step(
     requires within { place < length stops.old.typed.items }
     requires number { IsNumberOf types.old rule.now.data.now.name.0 place }
     requires told { typed_at stops.old place ≡ is_some (type_by_name (numbered_table types.old) rule.now.data.now.name.0) }
-    ensures visits { IfOk result (λ ready. VisitsOne parameters.now (numbered_table types.old) (numbered_table types.new) (rule_seen rule.now) place stops.old stops.new ready.items) }
+    ensures visits { IfOk result (λ ready. VisitsOne parameters.now (numbered_table types.old) (numbered_table types.new)
+        (rule_seen rule.now) place stops.old stops.new ready.items) }
     ensures numbers { IfOk result (λ ready. HasSameNumbers types.old types.new) }
 {
     if stops.is_typed(place) {
@@ -90,7 +91,8 @@ fn round(
     requires watches { Watches parameters.now (numbered_table types.old) (map rule_seen rules.now) stops.old }
     requires waits { Waits parameters.now (numbered_table types.old) (map rule_seen rules.now) now.old }
     ensures numbered { IfOk result (λ next. NumbersRules types.new (map rule_seen rules.now)) }
-    ensures passes { IfOk result (λ next. Passes parameters.now (numbered_table types.old) (numbered_table types.new) (map rule_seen rules.now)) }
+    ensures passes { IfOk result (λ next. Passes parameters.now
+        (numbered_table types.old) (numbered_table types.new) (map rule_seen rules.now)) }
     ensures waits { IfOk result (λ next. Waits parameters.now (numbered_table types.new) (map rule_seen rules.now) next) }
     ensures watches { IfOk result (λ next. Watches parameters.now (numbered_table types.new) (map rule_seen rules.now) stops.new) }
 {
@@ -119,7 +121,8 @@ fn rounds_from(
     requires watches { Watches parameters.now (numbered_table types.old) (map rule_seen rules.now) stops.old }
     requires waits { Waits parameters.now (numbered_table types.old) (map rule_seen rules.now) now }
     ensures numbered { OnOk result (NumbersRules types.new (map rule_seen rules.now)) }
-    ensures ends { OnOk result (EndsRounds parameters.now (numbered_table types.old) (numbered_table types.new) (map rule_seen rules.now) (length rules.now)) }
+    ensures ends { OnOk result (EndsRounds parameters.now
+        (numbered_table types.old) (numbered_table types.new) (map rule_seen rules.now) (length rules.now)) }
 {
     // No code reads `count`: the invariant speaks of it.
     for count in 0..rules.len() {
@@ -142,7 +145,8 @@ pub(crate) fn run_rounds(
     requires numbered { NumbersRules types.old (map rule_seen rules.now) }
     requires untyped { (n : List ℕ) → type_by_name (numbered_table types.old) n ≡ None }
     ensures numbered { OnOk result (NumbersRules types.new (map rule_seen rules.now)) }
-    ensures ends { OnOk result (EndsRounds parameters.now (numbered_table types.old) (numbered_table types.new) (map rule_seen rules.now) (length rules.now)) }
+    ensures ends { OnOk result (EndsRounds parameters.now
+        (numbered_table types.old) (numbered_table types.new) (map rule_seen rules.now) (length rules.now)) }
 {
     let needs = needs_of(alloc, parameters, &types.names, rules)?;
     let mut stops = Stops::new(alloc, rules.len())?;

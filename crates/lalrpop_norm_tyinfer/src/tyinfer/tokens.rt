@@ -7,12 +7,12 @@ ghost use Rattle.lalrpop_norm_tree_parts.specs.Reprs.{repr_view};
 ghost use Rattle.lalrpop_norm_tree.specs.Types.{type_view};
 ghost use Rattle.lalrpop_norm_repr.specs.Tables.{type_table};
 ghost use Rattle.lalrpop_norm_model.specs.TerminalTypes.{chosen_in_pattern, type_of_chosen, conversion_row, extern_enum, rows_with};
-ghost use Rattle.lalrpop_norm_tyinfer_table.specs.TokenTypes.{AddsTerminals, rows_seen, base_table};
+ghost use Rattle.lalrpop_norm_tyinfer_steps.specs.TokenTypes.{AddsTerminals, rows_seen, base_table};
 
 use lalrpop_norm_repr::grammar::repr::{TypeRepr, Types};
 use lalrpop_norm_tree::grammar::parse_tree::{Conversion, Grammar, NoMemory, TypeRef};
 use lalrpop_norm_tree::grammar::pattern::Pattern;
-use lalrpop_norm_tyinfer_table::tokens::{
+use lalrpop_norm_tyinfer_steps::tokens::{
     Row, add_rows, base_types, entry_rows, rows_to_come, type_of_chosen,
 };
 use std::alloc::Global;

@@ -3,15 +3,15 @@ ghost use Rattle.std.specs.Prelude.{◌≡◌, List, IfOk, map, option_map};
 ghost use Rattle.lalrpop_norm_tree_names.specs.declared.names.TypeParameter.{TypeParameter};
 ghost use Rattle.lalrpop_norm_tree_parts.specs.Reprs.{repr_view, reprs_view};
 ghost use Rattle.lalrpop_norm_tree.specs.Symbols.{kind_view};
-ghost use Rattle.lalrpop_norm_tyinfer_table.specs.Clauses.{kinds_in, sources_in, clause_view, clauses_view, clause_in, first_in};
-ghost use Rattle.lalrpop_norm_tyinfer_table.specs.Numbered.{numbered_table};
+ghost use Rattle.lalrpop_norm_tyinfer_steps.specs.Clauses.{kinds_in, sources_in, clause_view, clauses_view, clause_in, first_in};
+ghost use Rattle.lalrpop_norm_tyinfer_steps.specs.Numbered.{numbered_table};
 
 use lalrpop_norm_repr::grammar::repr::TypeRepr;
 use lalrpop_norm_tree::grammar::parse_tree::{NoMemory, Symbol, TypeParameter};
 use lalrpop_norm_tree_parts::lowered::copy::copy_of;
-use lalrpop_norm_tyinfer_table::numbered::Numbered;
-use lalrpop_norm_tyinfer_table::type_sources::{RuleClauses, TypeSource};
-use lalrpop_norm_tyinfer_table::values::{kind_value, type_value};
+use lalrpop_norm_tyinfer_steps::numbered::Numbered;
+use lalrpop_norm_tyinfer_steps::type_sources::{RuleClauses, TypeSource};
+use lalrpop_norm_tyinfer_steps::values::{kind_value, type_value};
 use std::alloc::Global;
 
 /// A copy of the type that a clause of an alternative makes of the table, if it makes one, whatever the type parameters.
@@ -20,7 +20,8 @@ pub(crate) fn clause_value(
     types: &Numbered,
     clause: &TypeSource,
 ) -> Result<Option<TypeRepr>, NoMemory>
-    ensures { IfOk result (λ o. (ps : List TypeParameter) → option_map repr_view o ≡ clause_in ps (numbered_table types.now) (clause_view clause.now)) }
+    ensures { IfOk result (λ o. (ps : List TypeParameter) →
+        option_map repr_view o ≡ clause_in ps (numbered_table types.now) (clause_view clause.now)) }
 {
     match clause {
         TypeSource::Sources(sources) => sources_value(alloc, types, sources),
@@ -40,7 +41,8 @@ fn sources_value(
     types: &Numbered,
     sources: &[(usize, &Symbol)],
 ) -> Result<Option<TypeRepr>, NoMemory>
-    ensures { IfOk result (λ o. option_map repr_view o ≡ sources_in (numbered_table types.now) (map (λ t. kind_view t.1.now.kind) sources.now)) }
+    ensures { IfOk result (λ o. option_map repr_view o
+        ≡ sources_in (numbered_table types.now) (map (λ t. kind_view t.1.now.kind) sources.now)) }
 {
     match sources {
         [source] => kind_value(types, &source.1.kind),
@@ -56,7 +58,8 @@ fn all_values(
     types: &Numbered,
     sources: &[(usize, &Symbol)],
 ) -> Result<Option<Vec<TypeRepr>>, NoMemory>
-    ensures { IfOk result (λ o. option_map (λ ts. reprs_view ts.items) o ≡ kinds_in (numbered_table types.now) (map (λ t. kind_view t.1.now.kind) sources.now)) }
+    ensures { IfOk result (λ o. option_map (λ ts. reprs_view ts.items) o
+        ≡ kinds_in (numbered_table types.now) (map (λ t. kind_view t.1.now.kind) sources.now)) }
 {
     let mut values = Vec::with_capacity(alloc, sources.len())?;
     for source in sources {
@@ -89,7 +92,8 @@ fn first_given(
     types: &Numbered,
     clauses: &[TypeSource],
 ) -> Result<Option<TypeRepr>, NoMemory>
-    ensures { IfOk result (λ o. (ps : List TypeParameter) → option_map repr_view o ≡ first_in ps (numbered_table types.now) (map clause_view clauses.now)) }
+    ensures { IfOk result (λ o. (ps : List TypeParameter) →
+        option_map repr_view o ≡ first_in ps (numbered_table types.now) (map clause_view clauses.now)) }
 {
     for clause in clauses {
         if let Some(ty) = clause_value(alloc, types, clause)? {

@@ -12,9 +12,12 @@ use Rattle.lalrpop_norm_macro_expand_rules.specs.Pending.{met_filled, shown_fill
 use Rattle.lalrpop_norm_macro_expand_rules.proofs.UnboundLemmas.{none_given, none_met, none_shown, none_read}
 use Rattle.lalrpop_norm_macro_expand_rules.proofs.items.replace_rule.Goals as goal
 
-pub read_alternatives-requires-clause-given : goal.read_alternatives-requires-clause-given
-read_alternatives-requires-clause-given c =
-    none_given c.in_ok-numbers.numbers c.deref.result.now (c.deref.ensures.value ∙ c.new-given.ensures.items) (wholes_in c.args.table.now)
+pub read_alternatives-requires : goal.read_alternatives-requires
+read_alternatives-requires c = record {
+  table = c.requires.table;
+  counted = c.requires.counted;
+  given = none_given c.in_ok-numbers.numbers c.deref.result.now (c.deref.ensures.value ∙ c.new-given.ensures.items) (wholes_in c.args.table.now);
+}
 
 pub returns-in_err-read_alternatives-clause-refuses : goal.returns-in_err-read_alternatives-clause-refuses
 returns-in_err-read_alternatives-clause-refuses c =

@@ -11,8 +11,8 @@ use Rattle.lalrpop_norm_nodes.proofs.InPlace.{exit_first}
 use Rattle.lalrpop_norm_nodes.proofs.MeetLemmas.{grows_both, meets_both, refused_later, meets_nothing}
 use Rattle.lalrpop_norm_nodes.proofs.WaitLemmas.{waits_both, waits_nothing}
 use Rattle.lalrpop_norm_macro_expand_rules.specs.declared.pending.Filling.{Filling}
-use Rattle.lalrpop_norm_macro_expand_rules.specs.Pending.{PendingData, FillingData, met_in_pending, shown_in_pending, pending_read, filling_view, filled_item, IsReadable, AreReadable}
-use Rattle.lalrpop_norm_macro_expand_rules.proofs.PendingLemmas.{filling_stays, readable_stays, pending_in, pending_next, pending_later}
+use Rattle.lalrpop_norm_macro_expand_rules.specs.Pending.{pending_in, PendingData, FillingData, met_in_pending, shown_in_pending, pending_read, filling_view, filled_item, IsReadable, AreReadable}
+use Rattle.lalrpop_norm_macro_expand_rules.proofs.PendingLemmas.{filling_stays, readable_stays, pending_next, pending_later}
 use Rattle.lalrpop_norm_macro_expand_rules.proofs.pending.read_pending.Goals as goal
 
 no_items : {A : Type 0} (xs : List A) → length xs ≡ 0 → xs ≡ []

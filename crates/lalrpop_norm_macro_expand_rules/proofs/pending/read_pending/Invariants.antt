@@ -5,8 +5,7 @@ use Rattle.lalrpop_norm_nodes.specs.declared.table.Table.{Table}
 use Rattle.lalrpop_norm_nodes.specs.Wholes.{Grows}
 use Rattle.lalrpop_norm_nodes.specs.Tables.{wholes_in, IsNodeTable, IsCounted, TableMeets, refused_in}
 use Rattle.lalrpop_norm_nodes.specs.Waits.{LeavesWaiting}
-use Rattle.lalrpop_norm_macro_expand_rules.specs.Pending.{met_in_pending, shown_in_pending, pending_read, AreReadable}
-use Rattle.lalrpop_norm_macro_expand_rules.proofs.PendingLemmas.{pending_in}
+use Rattle.lalrpop_norm_macro_expand_rules.specs.Pending.{pending_in, met_in_pending, shown_in_pending, pending_read, AreReadable}
 use Rattle.lalrpop_norm_macro_expand_rules.proofs.pending.read_pending.Given as goal
 
 -- what is reached of the rules that are left is reached of all

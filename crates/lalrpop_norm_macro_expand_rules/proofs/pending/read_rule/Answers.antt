@@ -6,8 +6,12 @@ use Rattle.lalrpop_norm_nodes.proofs.MeetingLemmas.{err_refuses}
 use Rattle.lalrpop_norm_macro_expand_rules.specs.Pending.{shown_numbered, read_filled}
 use Rattle.lalrpop_norm_macro_expand_rules.proofs.pending.read_rule.Goals as goal
 
-pub read_alternatives-requires-clause-given : goal.read_alternatives-requires-clause-given
-read_alternatives-requires-clause-given c = rw c.deref.ensures.value c.requires.readable
+pub read_alternatives-requires : goal.read_alternatives-requires
+read_alternatives-requires c = record {
+  table = c.requires.table;
+  counted = c.requires.counted;
+  given = rw c.deref.ensures.value c.requires.readable;
+}
 
 pub returns-in_err-read_alternatives-clause-refuses : goal.returns-in_err-read_alternatives-clause-refuses
 returns-in_err-read_alternatives-clause-refuses c =

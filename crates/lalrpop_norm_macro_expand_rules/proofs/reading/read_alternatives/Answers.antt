@@ -67,3 +67,8 @@ loop-i-preserved c =
       counted = n.counted;
       given = all_given_stay (wholes_in a) (wholes_in d) e meets.grows c.requires.given;
     }
+
+pub read_alternative-requires : goal.read_alternative-requires
+read_alternative-requires c =
+    let v = c.loop-i.invariant in
+    record { table = v.meets.table; counted = v.counted; given = v.given }

@@ -71,6 +71,11 @@ loop-i-preserved c =
       given = all_given_stay (wholes_in a) (wholes_in d) e meets.grows c.requires.given;
     }
 
+pub read_symbol-requires : goal.read_symbol-requires
+read_symbol-requires c =
+    let v = c.loop-i.invariant in
+    record { table = v.meets.table; counted = v.counted; given = v.given }
+
 pub returns-clause-value : goal.returns-clause-value
 returns-clause-value c =
     let e = c.args.environment.now in

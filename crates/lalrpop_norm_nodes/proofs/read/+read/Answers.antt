@@ -55,7 +55,15 @@ read_symbol-enter_symbol-requires t c =
     }
 
 pub read_symbol-node_of-requires : goal.read_symbol-node_of-requires
-read_symbol-node_of-requires t c = (to_kind t c.args.symbol.now c.decreases, (c.requires.table, (c.requires.counted, (c.requires.given, sym c.given_to.ensures ∙ ap (option_map (λ g. g.now)) c.in_default.is))))
+read_symbol-node_of-requires t c = (
+  to_kind t c.args.symbol.now c.decreases,
+  record {
+    table = c.requires.table;
+    counted = c.requires.counted;
+    given = c.requires.given;
+    unbound = sym c.given_to.ensures ∙ ap (option_map (λ g. g.now)) c.in_default.is;
+  },
+)
 
 pub read_boxed-returns : goal.read_boxed-returns
 read_boxed-returns t c =
@@ -67,7 +75,7 @@ read_boxed-returns-in_err-number t c =
     c.from_residual.ensures.1 c.deref_mut.ensures.value c.in_err-number.ensures.refuses
 
 pub read_boxed-read_symbol-requires : goal.read_boxed-read_symbol-requires
-read_boxed-read_symbol-requires t c = (to_boxed t _ _ c.deref_mut.ensures.value c.decreases, (c.requires.table, (c.requires.counted, c.requires.given)))
+read_boxed-read_symbol-requires t c = (to_boxed t _ _ c.deref_mut.ensures.value c.decreases, c.requires)
 
 pub read_repeated-returns : goal.read_repeated-returns
 read_repeated-returns t c =
@@ -88,7 +96,7 @@ read_repeated-returns-in_err-number t c =
     f.ensures.1 (ap (λ (y : RepeatSymbol). y.symbol) is) c.in_err-number.ensures.refuses)
 
 pub read_repeated-read_symbol-requires : goal.read_repeated-read_symbol-requires
-read_repeated-read_symbol-requires t c = (to_repeated t _ _ c.deref_mut.ensures.value c.decreases, (c.requires.table, (c.requires.counted, c.requires.given)))
+read_repeated-read_symbol-requires t c = (to_repeated t _ _ c.deref_mut.ensures.value c.decreases, c.requires)
 
 -- ---- symbols in a row
 
@@ -105,7 +113,7 @@ read_row-loop-i-smaller t c = falls _ _ c.loop-i-test.true
 pub read_row-read_symbol-requires : goal.read_row-read_symbol-requires
 read_row-read_symbol-requires t c =
     let v = c.loop-i.invariant in
-    (to_one t c.loop-i.several c.args.several.now c.loop-i.i _ c.loop-i-test.true v.rest c.decreases, (v.meets.table, (v.counted, v.given)))
+    (to_one t c.loop-i.several c.args.several.now c.loop-i.i _ c.loop-i-test.true v.rest c.decreases, record { table = v.meets.table; counted = v.counted; given = v.given })
 
 pub read_row-enter-requires : goal.read_row-enter-requires
 read_row-enter-requires t c =
@@ -158,7 +166,7 @@ read_group-returns-in_err-row t c =
     c.from_residual.ensures.1 c.deref_mut.ensures.value c.in_err-row.ensures.refuses
 
 pub read_group-read_row-requires : goal.read_group-read_row-requires
-read_group-read_row-requires t c = (to_items t c.args.expr.now _ c.deref_mut.ensures.value c.decreases, (c.requires.table, (c.requires.counted, c.requires.given)))
+read_group-read_row-requires t c = (to_items t c.args.expr.now _ c.deref_mut.ensures.value c.decreases, c.requires)
 
 pub read_call-returns : goal.read_call-returns
 read_call-returns t c =
@@ -176,7 +184,7 @@ read_call-returns-in_err-row t c =
     f.ensures.1 c.deref_mut.ensures.value c.in_err-row.ensures.refuses
 
 pub read_call-read_row-requires : goal.read_call-read_row-requires
-read_call-read_row-requires t c = (to_arguments t c.args.instance.now _ c.deref_mut.ensures.value c.decreases, (c.requires.table, (c.requires.counted, c.requires.given)))
+read_call-read_row-requires t c = (to_arguments t c.args.instance.now _ c.deref_mut.ensures.value c.decreases, c.requires)
 
 -- ---- kinds with nothing inside
 
@@ -245,22 +253,22 @@ node_of-returns-in-Macro t c =
     call_kind r.result c.args.table.now r.new.table c.args.environment.now c.args.kind.now c.in-Macro.instance r.new.instance c.in-Macro.is r.ensures
 
 pub node_of-read_boxed-requires : goal.node_of-read_boxed-requires
-node_of-read_boxed-requires t c = (to_chosen t c.args.kind.now _ c.in-Choose.is c.decreases, (c.requires.table, (c.requires.counted, c.requires.given)))
+node_of-read_boxed-requires t c = (to_chosen t c.args.kind.now _ c.in-Choose.is c.decreases, record { table = c.requires.table; counted = c.requires.counted; given = c.requires.given })
 
 pub node_of-read_boxed-requires-in-Name : goal.node_of-read_boxed-requires-in-Name
-node_of-read_boxed-requires-in-Name t c = (to_named t c.args.kind.now _ _ c.in-Name.is c.decreases, (c.requires.table, (c.requires.counted, c.requires.given)))
+node_of-read_boxed-requires-in-Name t c = (to_named t c.args.kind.now _ _ c.in-Name.is c.decreases, record { table = c.requires.table; counted = c.requires.counted; given = c.requires.given })
 
 pub node_of-read_boxed-requires-in-Tuple : goal.node_of-read_boxed-requires-in-Tuple
-node_of-read_boxed-requires-in-Tuple t c = (to_tupled t c.args.kind.now _ _ c.in-Tuple.is c.decreases, (c.requires.table, (c.requires.counted, c.requires.given)))
+node_of-read_boxed-requires-in-Tuple t c = (to_tupled t c.args.kind.now _ _ c.in-Tuple.is c.decreases, record { table = c.requires.table; counted = c.requires.counted; given = c.requires.given })
 
 pub node_of-read_repeated-requires : goal.node_of-read_repeated-requires
-node_of-read_repeated-requires t c = (to_repeat t c.args.kind.now _ c.in-Repeat.is c.decreases, (c.requires.table, (c.requires.counted, c.requires.given)))
+node_of-read_repeated-requires t c = (to_repeat t c.args.kind.now _ c.in-Repeat.is c.decreases, record { table = c.requires.table; counted = c.requires.counted; given = c.requires.given })
 
 pub node_of-read_group-requires : goal.node_of-read_group-requires
-node_of-read_group-requires t c = (to_group t c.args.kind.now _ c.in-Expr.is c.decreases, (c.requires.table, (c.requires.counted, c.requires.given)))
+node_of-read_group-requires t c = (to_group t c.args.kind.now _ c.in-Expr.is c.decreases, record { table = c.requires.table; counted = c.requires.counted; given = c.requires.given })
 
 pub node_of-read_call-requires : goal.node_of-read_call-requires
-node_of-read_call-requires t c = (to_call t c.args.kind.now _ c.in-Macro.is c.decreases, (c.requires.table, (c.requires.counted, c.requires.given)))
+node_of-read_call-requires t c = (to_call t c.args.kind.now _ c.in-Macro.is c.decreases, record { table = c.requires.table; counted = c.requires.counted; given = c.requires.given })
 
 -- ---- and their errors, passed on
 

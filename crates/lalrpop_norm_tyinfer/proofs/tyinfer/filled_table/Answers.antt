@@ -4,13 +4,13 @@ use Rattle.lalrpop_norm_tree.specs.Items.{grammar_view}
 use Rattle.lalrpop_norm_names.specs.Numbers.{number_in_table}
 use Rattle.lalrpop_norm_repr.specs.Tables.{TypeTable, type_table}
 use Rattle.lalrpop_norm_model.specs.TerminalTypes.{rows_with, extern_enum}
-use Rattle.lalrpop_norm_tyinfer_table.specs.Needs.{AreRuleNumbers}
-use Rattle.lalrpop_norm_tyinfer_table.specs.Numbered.{numbered_table}
-use Rattle.lalrpop_norm_tyinfer_table.specs.TokenTypes.{base_table, AddsTerminals}
-use Rattle.lalrpop_norm_tyinfer_table.specs.Visits.{rule_seen}
-use Rattle.lalrpop_norm_tyinfer_table.proofs.FilledLemmas.{filled, names_distinct}
-use Rattle.lalrpop_norm_tyinfer_table.proofs.NumberedRounds.{begins_table, none_by_name}
-use Rattle.lalrpop_norm_tyinfer_table.proofs.TokenLemmas.{added_names}
+use Rattle.lalrpop_norm_tyinfer_steps.specs.Needs.{AreRuleNumbers}
+use Rattle.lalrpop_norm_tyinfer_steps.specs.Numbered.{numbered_table}
+use Rattle.lalrpop_norm_tyinfer_steps.specs.TokenTypes.{base_table, AddsTerminals}
+use Rattle.lalrpop_norm_tyinfer_steps.specs.Visits.{rule_seen}
+use Rattle.lalrpop_norm_tyinfer_steps.proofs.FilledLemmas.{filled, names_distinct}
+use Rattle.lalrpop_norm_tyinfer_steps.proofs.NumberedRounds.{begins_table, none_by_name}
+use Rattle.lalrpop_norm_tyinfer_steps.proofs.TokenLemmas.{added_names}
 use Rattle.lalrpop_norm_tyinfer.proofs.tyinfer.filled_table.Goals as goal
 
 pub run_rounds-requires-clause-distinct : goal.run_rounds-requires-clause-distinct

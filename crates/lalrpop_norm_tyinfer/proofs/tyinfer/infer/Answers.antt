@@ -4,11 +4,11 @@ use Rattle.lalrpop_norm_theory.specs.Rounds.{IsDistinct}
 use Rattle.lalrpop_norm_tree.specs.Items.{grammar_view}
 use Rattle.lalrpop_norm_repr.specs.Tables.{type_table}
 use Rattle.lalrpop_norm_model.specs.Expanded.{rule_names}
-use Rattle.lalrpop_norm_tyinfer_table.specs.Needs.{AreRuleNumbers, names_seen}
-use Rattle.lalrpop_norm_tyinfer_table.specs.Visits.{rule_seen}
-use Rattle.lalrpop_norm_tyinfer_table.specs.Numbered.{numbered_table}
-use Rattle.lalrpop_norm_tyinfer_table.proofs.NumberLemmas.{number_is_place}
-use Rattle.lalrpop_norm_tyinfer_table.proofs.FilledLemmas.{names_of_all, names_distinct, clauses_refused, table_refused, none_refused, none_inferred}
+use Rattle.lalrpop_norm_tyinfer_steps.specs.Needs.{AreRuleNumbers, names_seen}
+use Rattle.lalrpop_norm_tyinfer_steps.specs.Visits.{rule_seen}
+use Rattle.lalrpop_norm_tyinfer_steps.specs.Numbered.{numbered_table}
+use Rattle.lalrpop_norm_tyinfer_steps.proofs.NumberLemmas.{number_is_place}
+use Rattle.lalrpop_norm_tyinfer_steps.proofs.FilledLemmas.{names_of_all, names_distinct, clauses_refused, table_refused, none_refused, none_inferred}
 use Rattle.lalrpop_norm_tyinfer.proofs.tyinfer.infer.Goals as goal
 
 pub returns-in_err-check_clauses-clause-refuses : goal.returns-in_err-check_clauses-clause-refuses

@@ -3,14 +3,14 @@ use Rattle.std.proofs.lemmas.List.{get_or_default}
 use Rattle.lalrpop_norm_tree.specs.Symbols.{kind_view, symbol_view}
 use Rattle.lalrpop_norm_precedence_steps.specs.declared.occurrences.Direction.TheVariants.{Forward, Backward}
 use Rattle.lalrpop_norm_precedence_steps.specs.Substitutions.{Plan, met_kind}
-use Rattle.lalrpop_norm_precedence.specs.Substituted.{is_target, once_met}
+use Rattle.lalrpop_norm_precedence.specs.Occurrences.{is_target, once_met}
 use Rattle.lalrpop_norm_precedence.proofs.WalkLemmas.{forward_value, forward_plan, backward_value, backward_plan, forward_end, backward_end, planned_parts, count_one_by_one, forward_none, backward_none}
 use Rattle.lalrpop_norm_precedence.proofs.precedence.replace.+replace.Goals as goal
 
 pub replace_symbols-forward-preserved : goal.replace_symbols-forward-preserved
 replace_symbols-forward-preserved t c =
-    let own = is_target c.args.target.now.0 in
-    let p : Plan = (kind_view c.args.first.now, kind_view c.args.others.now) in
+    let own = is_target c.args.replacing.target.now.0 in
+    let p : Plan = (kind_view c.args.replacing.first.now, kind_view c.args.replacing.others.now) in
     let ss = c.forward.symbols in
     let i = c.forward.i in
     let s = c.forward.left in
@@ -27,8 +27,8 @@ replace_symbols-forward-preserved t c =
 
 pub replace_symbols-backward-preserved : goal.replace_symbols-backward-preserved
 replace_symbols-backward-preserved t c =
-    let own = is_target c.args.target.now.0 in
-    let p : Plan = (kind_view c.args.first.now, kind_view c.args.others.now) in
+    let own = is_target c.args.replacing.target.now.0 in
+    let p : Plan = (kind_view c.args.replacing.first.now, kind_view c.args.replacing.others.now) in
     let ss = c.backward.symbols in
     let i = c.backward.i - 1 in
     let s = c.backward.left in
@@ -46,28 +46,28 @@ replace_symbols-backward-preserved t c =
 
 pub replace_symbols-returns-after-forward-clause-value : goal.replace_symbols-returns-after-forward-clause-value
 replace_symbols-returns-after-forward-clause-value t c =
-    let own = is_target c.args.target.now.0 in
-    let p : Plan = (kind_view c.args.first.now, kind_view c.args.others.now) in
+    let own = is_target c.args.replacing.target.now.0 in
+    let p : Plan = (kind_view c.args.replacing.first.now, kind_view c.args.replacing.others.now) in
     rw c.in-Forward.is
-    (planned_parts own (met_kind p Forward c.args.is_met) _ (map symbol_view c.args.symbols.now)
+    (planned_parts own (met_kind p Forward c.args.replacing.is_met) _ (map symbol_view c.args.symbols.now)
     (sym (forward_end own (met_kind p Forward c.forward.left) c.forward.symbols c.forward.i (omega arith)) ∙ c.forward.invariant.value))
 
 pub replace_symbols-returns-after-forward-clause-met : goal.replace_symbols-returns-after-forward-clause-met
 replace_symbols-returns-after-forward-clause-met t c =
-    let own = is_target c.args.target.now.0 in
+    let own = is_target c.args.replacing.target.now.0 in
     sym (forward_none own c.forward.left c.forward.symbols c.forward.i (omega arith)) ∙ c.forward.invariant.left ∙
-    ap (once_met c.args.is_met) (sym (count_one_by_one own (map symbol_view c.args.symbols.now)))
+    ap (once_met c.args.replacing.is_met) (sym (count_one_by_one own (map symbol_view c.args.symbols.now)))
 
 pub replace_symbols-returns-after-backward-clause-value : goal.replace_symbols-returns-after-backward-clause-value
 replace_symbols-returns-after-backward-clause-value t c =
-    let own = is_target c.args.target.now.0 in
-    let p : Plan = (kind_view c.args.first.now, kind_view c.args.others.now) in
+    let own = is_target c.args.replacing.target.now.0 in
+    let p : Plan = (kind_view c.args.replacing.first.now, kind_view c.args.replacing.others.now) in
     rw c.in-Backward.is
-    (planned_parts own (met_kind p Backward c.args.is_met) _ (map symbol_view c.args.symbols.now)
+    (planned_parts own (met_kind p Backward c.args.replacing.is_met) _ (map symbol_view c.args.symbols.now)
     (sym (backward_end own (met_kind p Backward c.backward.left) c.backward.symbols c.backward.i (omega arith)) ∙ c.backward.invariant.value))
 
 pub replace_symbols-returns-after-backward-clause-met : goal.replace_symbols-returns-after-backward-clause-met
 replace_symbols-returns-after-backward-clause-met t c =
-    let own = is_target c.args.target.now.0 in
+    let own = is_target c.args.replacing.target.now.0 in
     sym (backward_none own c.backward.left c.backward.symbols c.backward.i (omega arith)) ∙ c.backward.invariant.left ∙
-    ap (once_met c.args.is_met) (sym (count_one_by_one own (map symbol_view c.args.symbols.now)))
+    ap (once_met c.args.replacing.is_met) (sym (count_one_by_one own (map symbol_view c.args.symbols.now)))

@@ -1,9 +1,9 @@
 use Rattle.std.proofs.Common.{◌≡◌, List, drop, map}
 use Rattle.std.specs.List.{flat_map}
 use Rattle.lalrpop_norm_tree_names.specs.declared.names.TypeParameter.{TypeParameter}
-use Rattle.lalrpop_norm_tyinfer_table.specs.Numbered.{numbered_table}
-use Rattle.lalrpop_norm_tyinfer_table.specs.TableFaults.{others_in}
-use Rattle.lalrpop_norm_tyinfer_table.specs.Visits.{plain_rule_view}
+use Rattle.lalrpop_norm_tyinfer_steps.specs.Numbered.{numbered_table}
+use Rattle.lalrpop_norm_tyinfer_steps.specs.TableFaults.{others_in}
+use Rattle.lalrpop_norm_tyinfer_steps.specs.Visits.{plain_rule_view}
 use Rattle.lalrpop_norm_tyinfer.proofs.tyinfer.agreement.check_agreement.Given as goal
 
 abbrev pub invariant-loop-rule : goal.invariant-loop-rule

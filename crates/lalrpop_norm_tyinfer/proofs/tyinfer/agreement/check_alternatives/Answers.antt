@@ -1,8 +1,8 @@
 use Rattle.std.proofs.Common.{arith}
 use Rattle.lalrpop_norm_tree.specs.Items.{alternative_view}
-use Rattle.lalrpop_norm_tyinfer_table.specs.Numbered.{numbered_table}
-use Rattle.lalrpop_norm_tyinfer_table.specs.TableFaults.{other_in}
-use Rattle.lalrpop_norm_tyinfer_table.proofs.LoopLemmas.{exit_loop}
+use Rattle.lalrpop_norm_tyinfer_steps.specs.Numbered.{numbered_table}
+use Rattle.lalrpop_norm_tyinfer_steps.specs.TableFaults.{other_in}
+use Rattle.lalrpop_norm_tyinfer_steps.proofs.LoopLemmas.{exit_loop}
 use Rattle.lalrpop_norm_tyinfer.proofs.Loops.{passed_on, all_passed}
 use Rattle.lalrpop_norm_tyinfer.proofs.tyinfer.agreement.check_alternatives.Goals as goal
 

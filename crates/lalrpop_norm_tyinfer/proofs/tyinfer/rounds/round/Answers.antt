@@ -1,9 +1,9 @@
 use Rattle.std.proofs.Common.{◌<◌, length, map, sym, subst, arith}
 use Rattle.std.proofs.lemmas.List.{length-map}
-use Rattle.lalrpop_norm_tyinfer_table.specs.Visits.{rule_seen}
-use Rattle.lalrpop_norm_tyinfer_table.proofs.NumberedRounds.{number_of, still_numbered}
-use Rattle.lalrpop_norm_tyinfer_table.proofs.RoundLemmas.{midway_next, midway_passes, rule_there}
-use Rattle.lalrpop_norm_tyinfer_table.specs.Numbered.{numbered_table}
+use Rattle.lalrpop_norm_tyinfer_steps.specs.Visits.{rule_seen}
+use Rattle.lalrpop_norm_tyinfer_steps.proofs.NumberedRounds.{number_of, still_numbered}
+use Rattle.lalrpop_norm_tyinfer_steps.proofs.RoundLemmas.{midway_next, midway_passes, rule_there}
+use Rattle.lalrpop_norm_tyinfer_steps.specs.Numbered.{numbered_table}
 use Rattle.std.proofs.lemmas.Result.{IfOk-from_err}
 use Rattle.lalrpop_norm_tyinfer.proofs.RoundStarts.{midway_first, waits_next, fewer_left}
 use Rattle.lalrpop_norm_tyinfer.proofs.tyinfer.rounds.round.Goals as goal

@@ -1,7 +1,7 @@
 use Rattle.std.proofs.Common.{◌-◌, length, map}
-use Rattle.lalrpop_norm_tyinfer_table.specs.Numbered.{numbered_table, NumbersRules}
-use Rattle.lalrpop_norm_tyinfer_table.specs.Visits.{rule_seen}
-use Rattle.lalrpop_norm_tyinfer_table.proofs.RoundLemmas.{Midway}
+use Rattle.lalrpop_norm_tyinfer_steps.specs.Numbered.{numbered_table, NumbersRules}
+use Rattle.lalrpop_norm_tyinfer_steps.specs.Visits.{rule_seen}
+use Rattle.lalrpop_norm_tyinfer_steps.proofs.RoundLemmas.{Midway}
 use Rattle.lalrpop_norm_tyinfer.proofs.tyinfer.rounds.round.Given as goal
 
 abbrev pub invariant-loop-place : goal.invariant-loop-place

@@ -1,5 +1,5 @@
 use Rattle.std.proofs.Common.{◌≡◌, length, suc, add-one, arith}
-use Rattle.lalrpop_norm_tyinfer_table.proofs.VisitLemmas.{ends_none, ends_more, ends_quiet}
+use Rattle.lalrpop_norm_tyinfer_steps.proofs.VisitLemmas.{ends_none, ends_more, ends_quiet}
 use Rattle.lalrpop_norm_tyinfer.proofs.tyinfer.rounds.rounds_from.Goals as goal
 
 pub loop-count-init : goal.loop-count-init

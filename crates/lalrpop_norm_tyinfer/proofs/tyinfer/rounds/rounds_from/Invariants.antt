@@ -1,7 +1,7 @@
 use Rattle.std.proofs.Common.{map}
-use Rattle.lalrpop_norm_tyinfer_table.specs.Numbered.{numbered_table, NumbersRules}
-use Rattle.lalrpop_norm_tyinfer_table.specs.Visits.{rule_seen, EndsRounds}
-use Rattle.lalrpop_norm_tyinfer_table.specs.Waiting.{Waits, Watches}
+use Rattle.lalrpop_norm_tyinfer_steps.specs.Numbered.{numbered_table, NumbersRules}
+use Rattle.lalrpop_norm_tyinfer_steps.specs.Visits.{rule_seen, EndsRounds}
+use Rattle.lalrpop_norm_tyinfer_steps.specs.Waiting.{Waits, Watches}
 use Rattle.lalrpop_norm_tyinfer.proofs.tyinfer.rounds.rounds_from.Given as goal
 
 abbrev pub invariant-loop-count : goal.invariant-loop-count

@@ -2,12 +2,12 @@ use Rattle.std.proofs.Common.{◌≡◌, ℕ, length, map, sym, subst, ◌∙◌
 use Rattle.std.proofs.lemmas.List.{length-map}
 use Rattle.lalrpop_norm_names.specs.Numbers.{number_in_table}
 use Rattle.lalrpop_norm_theory.specs.Rounds.{In}
-use Rattle.lalrpop_norm_tyinfer_table.specs.declared.needs.Need.{Need}
-use Rattle.lalrpop_norm_tyinfer_table.specs.Numbered.{numbered_table}
-use Rattle.lalrpop_norm_tyinfer_table.specs.Stops.{NeedsBelow, AreUntyped, BeginsUntyped}
-use Rattle.lalrpop_norm_tyinfer_table.specs.Visits.{rule_seen}
-use Rattle.lalrpop_norm_tyinfer_table.proofs.NeedLemmas.{need_fits}
-use Rattle.lalrpop_norm_tyinfer_table.proofs.RoundLemmas.{begins_watching, begins_waiting}
+use Rattle.lalrpop_norm_tyinfer_steps.specs.declared.needs.Need.{Need}
+use Rattle.lalrpop_norm_tyinfer_steps.specs.Numbered.{numbered_table}
+use Rattle.lalrpop_norm_tyinfer_steps.specs.Stops.{NeedsBelow, AreUntyped, BeginsUntyped}
+use Rattle.lalrpop_norm_tyinfer_steps.specs.Visits.{rule_seen}
+use Rattle.lalrpop_norm_tyinfer_steps.proofs.NeedLemmas.{need_fits}
+use Rattle.lalrpop_norm_tyinfer_steps.proofs.RoundLemmas.{begins_watching, begins_waiting}
 use Rattle.lalrpop_norm_tyinfer.proofs.tyinfer.rounds.run_rounds.Goals as goal
 
 pub begin-requires-clause-untyped : goal.begin-requires-clause-untyped

@@ -1,13 +1,13 @@
 use Rattle.std.proofs.Common.{◌≡◌, None, sym, ◌∙◌}
 use Rattle.std.proofs.lemmas.Result.{IfOk-from_err}
 use Rattle.lalrpop_norm_tree_parts.specs.Reprs.{repr_view}
-use Rattle.lalrpop_norm_tyinfer_table.specs.Numbered.{numbered_table}
-use Rattle.lalrpop_norm_tyinfer_table.specs.TableValues.{type_by_name}
-use Rattle.lalrpop_norm_tyinfer_table.specs.Visits.{rule_seen}
-use Rattle.lalrpop_norm_tyinfer_table.proofs.NumberedRounds.{nothing_put, put_same, put_taken}
-use Rattle.lalrpop_norm_tyinfer_table.proofs.RoundLemmas.{not_some, steps_still, steps_taken}
-use Rattle.lalrpop_norm_tyinfer_table.proofs.StopLemmas.{if_ok}
-use Rattle.lalrpop_norm_tyinfer_table.proofs.VisitLemmas.{taken_none, taken_typed}
+use Rattle.lalrpop_norm_tyinfer_steps.specs.Numbered.{numbered_table}
+use Rattle.lalrpop_norm_tyinfer_steps.specs.TableValues.{type_by_name}
+use Rattle.lalrpop_norm_tyinfer_steps.specs.Visits.{rule_seen}
+use Rattle.lalrpop_norm_tyinfer_steps.proofs.NumberedRounds.{nothing_put, put_same, put_taken}
+use Rattle.lalrpop_norm_tyinfer_steps.proofs.RoundLemmas.{not_some, steps_still, steps_taken}
+use Rattle.lalrpop_norm_tyinfer_steps.proofs.StopLemmas.{if_ok}
+use Rattle.lalrpop_norm_tyinfer_steps.proofs.VisitLemmas.{taken_none, taken_typed}
 use Rattle.lalrpop_norm_tyinfer.proofs.tyinfer.rounds.step.Goals as goal
 
 pub is_typed-requires : goal.is_typed-requires

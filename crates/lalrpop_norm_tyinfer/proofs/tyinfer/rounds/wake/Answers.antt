@@ -1,4 +1,4 @@
-use Rattle.lalrpop_norm_tyinfer_table.proofs.RoundLemmas.{wakes_more}
+use Rattle.lalrpop_norm_tyinfer_steps.proofs.RoundLemmas.{wakes_more}
 use Rattle.std.proofs.lemmas.List.{take_more}
 use Rattle.lalrpop_norm_tyinfer.proofs.tyinfer.rounds.wake.Goals as goal
 

@@ -1,5 +1,5 @@
 use Rattle.std.proofs.Common.{take}
-use Rattle.lalrpop_norm_tyinfer_table.specs.Waiting.{Wakes}
+use Rattle.lalrpop_norm_tyinfer_steps.specs.Waiting.{Wakes}
 use Rattle.lalrpop_norm_tyinfer.proofs.tyinfer.rounds.wake.Given as goal
 
 abbrev pub invariant-loop-other : goal.invariant-loop-other

@@ -1,4 +1,4 @@
-use Rattle.lalrpop_norm_tyinfer_table.proofs.StopLemmas.{if_ok}
+use Rattle.lalrpop_norm_tyinfer_steps.proofs.StopLemmas.{if_ok}
 use Rattle.lalrpop_norm_tyinfer.proofs.RoundStarts.{woken_now, woken_next}
 use Rattle.lalrpop_norm_tyinfer.proofs.tyinfer.rounds.wake_one.Goals as goal
 

@@ -1,5 +1,5 @@
 use Rattle.std.proofs.Common.{◌∙◌, ap}
-use Rattle.lalrpop_norm_tyinfer_table.specs.TokenTypes.{rows_seen}
+use Rattle.lalrpop_norm_tyinfer_steps.specs.TokenTypes.{rows_seen}
 use Rattle.lalrpop_norm_tyinfer.proofs.ChosenLemmas.{row_added, no_row_added}
 use Rattle.lalrpop_norm_tyinfer.proofs.tyinfer.tokens.add_conversion.Goals as goal
 

@@ -1,7 +1,7 @@
 use Rattle.lalrpop_norm_tree.specs.Items.{grammar_view}
 use Rattle.lalrpop_norm_repr.specs.Tables.{type_table}
-use Rattle.lalrpop_norm_tyinfer_table.specs.TokenTypes.{AddsTerminals}
-use Rattle.lalrpop_norm_tyinfer_table.proofs.TokenLemmas.{from_base}
+use Rattle.lalrpop_norm_tyinfer_steps.specs.TokenTypes.{AddsTerminals}
+use Rattle.lalrpop_norm_tyinfer_steps.proofs.TokenLemmas.{from_base}
 use Rattle.lalrpop_norm_tyinfer.proofs.tyinfer.tokens.token_types.Goals as goal
 
 pub returns : goal.returns

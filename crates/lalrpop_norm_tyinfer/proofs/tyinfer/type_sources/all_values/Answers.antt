@@ -1,10 +1,10 @@
 use Rattle.std.proofs.Common.{List, Bor, ℕ, map, refl, arith, ap, ◌∙◌}
 use Rattle.lalrpop_norm_tree.specs.declared.symbol.Symbol.{Symbol}
 use Rattle.lalrpop_norm_tree.specs.Symbols.{kind_view}
-use Rattle.lalrpop_norm_tyinfer_table.specs.Numbered.{numbered_table}
-use Rattle.lalrpop_norm_tyinfer_table.specs.Clauses.{kinds_in}
-use Rattle.lalrpop_norm_tyinfer_table.specs.TableValues.{kind_in}
-use Rattle.lalrpop_norm_tyinfer_table.proofs.ValueLemmas.{next_value, last_value, before, before_nothing}
+use Rattle.lalrpop_norm_tyinfer_steps.specs.Numbered.{numbered_table}
+use Rattle.lalrpop_norm_tyinfer_steps.specs.Clauses.{kinds_in}
+use Rattle.lalrpop_norm_tyinfer_steps.specs.TableValues.{kind_in}
+use Rattle.lalrpop_norm_tyinfer_steps.proofs.ValueLemmas.{next_value, last_value, before, before_nothing}
 use Rattle.std.specs.Prelude.{option_map}
 use Rattle.std.proofs.lemmas.Result.{IfOk-from_err}
 use borrow.Author.Count.{falls}

@@ -2,9 +2,9 @@ use Rattle.std.proofs.Common.{◌≡◌, drop, map}
 use Rattle.std.specs.Prelude.{option_map}
 use Rattle.lalrpop_norm_tree_parts.specs.Reprs.{repr_view}
 use Rattle.lalrpop_norm_tree.specs.Symbols.{kind_view}
-use Rattle.lalrpop_norm_tyinfer_table.specs.Numbered.{numbered_table}
-use Rattle.lalrpop_norm_tyinfer_table.specs.Clauses.{kinds_in}
-use Rattle.lalrpop_norm_tyinfer_table.proofs.ValueLemmas.{before}
+use Rattle.lalrpop_norm_tyinfer_steps.specs.Numbered.{numbered_table}
+use Rattle.lalrpop_norm_tyinfer_steps.specs.Clauses.{kinds_in}
+use Rattle.lalrpop_norm_tyinfer_steps.proofs.ValueLemmas.{before}
 use Rattle.lalrpop_norm_tyinfer.proofs.tyinfer.type_sources.all_values.Given as goal
 
 abbrev pub invariant-loop-source : goal.invariant-loop-source

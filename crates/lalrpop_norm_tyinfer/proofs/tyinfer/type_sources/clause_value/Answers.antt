@@ -1,9 +1,9 @@
 use Rattle.std.proofs.Common.{ℕ, Bor, map, ◌∙◌}
 use Rattle.lalrpop_norm_tree.specs.declared.symbol.Symbol.{Symbol}
 use Rattle.lalrpop_norm_tree.specs.Symbols.{kind_view}
-use Rattle.lalrpop_norm_tyinfer_table.specs.Numbered.{numbered_table}
-use Rattle.lalrpop_norm_tyinfer_table.proofs.ClauseLemmas.{sources_mean}
-use Rattle.lalrpop_norm_tyinfer_table.proofs.StopLemmas.{if_ok}
+use Rattle.lalrpop_norm_tyinfer_steps.specs.Numbered.{numbered_table}
+use Rattle.lalrpop_norm_tyinfer_steps.proofs.ClauseLemmas.{sources_mean}
+use Rattle.lalrpop_norm_tyinfer_steps.proofs.StopLemmas.{if_ok}
 use Rattle.lalrpop_norm_tyinfer.proofs.tyinfer.type_sources.clause_value.Goals as goal
 
 pub returns-in-Sources : goal.returns-in-Sources

@@ -1,5 +1,5 @@
 use Rattle.lalrpop_norm_tree_parts.specs.Reprs.{repr_view}
-use Rattle.lalrpop_norm_tyinfer_table.specs.Numbered.{numbered_table}
+use Rattle.lalrpop_norm_tyinfer_steps.specs.Numbered.{numbered_table}
 use borrow.Author.Count.{falls}
 use Rattle.lalrpop_norm_tyinfer.proofs.Loops.{none_first, next_first, found_first}
 use Rattle.lalrpop_norm_tyinfer.proofs.tyinfer.type_sources.first_given.Goals as goal

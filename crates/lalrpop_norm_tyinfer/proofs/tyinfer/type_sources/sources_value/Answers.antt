@@ -3,7 +3,7 @@ use Rattle.std.specs.Prelude.{option_map}
 use Rattle.std.proofs.lemmas.Bool.Decides.{nat_tests}
 use Rattle.lalrpop_norm_tree_parts.specs.Reprs.{tuple}
 use Rattle.lalrpop_norm_tree_parts.proofs.ReprViews.{view_tuple}
-use Rattle.lalrpop_norm_tyinfer_table.specs.Numbered.{numbered_table}
+use Rattle.lalrpop_norm_tyinfer_steps.specs.Numbered.{numbered_table}
 use Rattle.lalrpop_norm_tyinfer.proofs.Sources.{many_sources}
 use Rattle.lalrpop_norm_tyinfer.proofs.tyinfer.type_sources.sources_value.Goals as goal
 use Rattle.lalrpop_norm_tyinfer.proofs.tyinfer.type_sources.sources_value.Goals.{in_default-via-then-sources-lt1, in_default-via-else-sources-lt1+else-sources-lt2}
