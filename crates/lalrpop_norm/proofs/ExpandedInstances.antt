@@ -6,13 +6,13 @@ use Rattle.lalrpop_norm_tree_names.specs.declared.names.NonterminalString.{Nonte
 use Rattle.lalrpop_norm_tree_names.specs.declared.names.Span.{Span}
 use Rattle.lalrpop_norm_tree_names.specs.declared.names.TerminalString.{TerminalString}
 use Rattle.lalrpop_norm_tree.specs.declared.symbol.RepeatOp.TheVariants.{Star, Plus, Question, Times}
-use Rattle.lalrpop_norm_tree.specs.Symbols.{Kind, Part, Parts, group, ambiguous_id, terminal, nonterminal, call, repeated, chosen, named, tupled, lookahead, lookbehind, error_terminal, at, no_parts, part_and}
-use Rattle.lalrpop_norm_tree.specs.Items.{AlternativeData, RuleData, lookahead_code, lookbehind_code}
+use Rattle.lalrpop_norm_tree.specs.Symbols.{Kind, Part, Parts, group, ambiguous_id, terminal, nonterminal, call, repeated, chosen, named, tupled, error_terminal, at, no_parts, part_and}
+use Rattle.lalrpop_norm_tree.specs.Items.{AlternativeData, RuleData}
 use Rattle.lalrpop_norm_theory.specs.Rounds.{In}
 use Rattle.lalrpop_norm_theory.proofs.RoundsLemmas.{in_cases}
 use Rattle.lalrpop_norm_model.specs.Grammars.{ConditionValue, is_true}
 use Rattle.lalrpop_norm_model.specs.Reading.{read_all}
-use Rattle.lalrpop_norm_model.specs.MadeRules.{group_rule, star_rule, plus_rule, question_rule, so_many, times_rule, location_rule, argument_kind, or_name, substituted, kind_substituted, all_substituted, flat_reader, instance_alternative, instance_alternatives, instance_rule, instance_of, macro_named, made_rules}
+use Rattle.lalrpop_norm_model.specs.MadeRules.{group_rule, star_rule, plus_rule, question_rule, so_many, times_rule, argument_kind, or_name, substituted, kind_substituted, all_substituted, flat_reader, instance_alternative, instance_alternatives, instance_rule, instance_of, macro_named, made_rules}
 use Rattle.lalrpop_norm_model.specs.PlainRules.{met, all_met}
 use Rattle.lalrpop_norm.proofs.ExpandedScopes.{IsOverKind, IsOver, AreOver}
 use Rattle.lalrpop_norm.proofs.ExpandedSymbols.{named_listed}
@@ -35,12 +35,11 @@ module _ (P : TerminalString → Type 0) where
     met_over (at s (chosen p)) h q i = met_over p h q i
     met_over (at s (named n p)) h q i = met_over p h q i
     met_over (at s (tupled ns p)) h q i = met_over p h q i
-    met_over (at s lookahead) h q i = then_itself (at s lookahead) q [] tt (λ j. absurd j) i
-    met_over (at s lookbehind) h q i = then_itself (at s lookbehind) q [] tt (λ j. absurd j) i
     met_over (at s (ambiguous_id a)) h q i = absurd i
     met_over (at s (terminal t)) h q i = absurd i
     met_over (at s (nonterminal n)) h q i = absurd i
     met_over (at s error_terminal) h q i = absurd i
+    met_over (at s k) h q i = then_itself (at s k) q [] tt (λ j. absurd j) i
 
     pub all_met_over : (ps : Parts) → AreOver P ps → (q : Part) → In q (all_met ps) → IsOver P q
     all_met_over no_parts h q i = absurd i
@@ -73,9 +72,7 @@ module _ (P : TerminalString → Type 0) where
       kind_put_over (chosen p) h = put_over p h
       kind_put_over (named n p) h = put_over p h
       kind_put_over (tupled ns p) h = put_over p h
-      kind_put_over lookahead h = tt
-      kind_put_over lookbehind h = tt
-      kind_put_over error_terminal h = tt
+      kind_put_over _ h = tt
 
       put_over : (p : Part) → IsOver P p → IsOver P (substituted argument p)
       put_over (at s k) h = kind_put_over k h
@@ -107,6 +104,9 @@ module _ (P : TerminalString → Type 0) where
   only_fit d r none h (inl e) = subst IsFitMade (sym e) (none, fit_in d.alternatives h)
   only_fit d r none h (inr i) = absurd i
 
+  sole_fit : (d r : RuleData) → In r (d ∷ []) → d.args ≡ [] → AreFit d.alternatives → IsFitMade r
+  sole_fit d r i none h = only_fit d r none h i
+
   instance_fit : (value : ConditionValue) (s : Span) (d : RuleData) (ps : Parts) → AreOver P ps → (xs : List AlternativeData) →
       ((a : AlternativeData) → In a xs → AreOver P a.parts) → AreFit (instance_alternatives value s d ps xs)
   instance_fit value s d ps h [] f = tt
@@ -135,8 +135,6 @@ module _ (P : TerminalString → Type 0) where
     made_fit (at s (repeated Plus p)) h r i = only_fit (plus_rule s p) r refl ((refl, (h, tt)), ((refl, (h, (h, tt))), tt)) i
     made_fit (at s (repeated Question p)) h r i = only_fit (question_rule s p) r refl ((refl, (h, tt)), ((refl, tt), tt)) i
     made_fit (at s (repeated (Times n) p)) h r i = only_fit (times_rule s n p) r refl ((refl, many_over n p h), tt) i
-    made_fit (at s lookahead) h r i = only_fit (location_rule s lookahead lookahead_code) r refl ((refl, tt), tt) i
-    made_fit (at s lookbehind) h r i = only_fit (location_rule s lookbehind lookbehind_code) r refl ((refl, tt), tt) i
     made_fit (at s (ambiguous_id a)) h r i = absurd i
     made_fit (at s (terminal t)) h r i = absurd i
     made_fit (at s (nonterminal n)) h r i = absurd i
@@ -144,3 +142,4 @@ module _ (P : TerminalString → Type 0) where
     made_fit (at s (named n p)) h r i = absurd i
     made_fit (at s (tupled ns p)) h r i = absurd i
     made_fit (at s error_terminal) h r i = absurd i
+    made_fit (at s k) h r i = sole_fit _ r i refl ((refl, tt), tt)

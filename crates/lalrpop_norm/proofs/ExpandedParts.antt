@@ -1,13 +1,14 @@
 -- Symbols whose terminals and names are among given ones, and in which no open identifier occurs: what is reached in them is such
 -- again, and what they are replaced by is plain.
 use Rattle.std.proofs.Common.{◌≡◌, inl, inr, ℕ, true, ◌&&◌, List, [], ◌∷◌, ◌++◌, refl, ap₂, sym, subst}
+use Rattle.lalrpop_norm_tree_names.specs.declared.names.Span.{Span}
 use Rattle.lalrpop_norm_tree_names.specs.declared.names.TerminalString.{TerminalString}
-use Rattle.lalrpop_norm_tree.specs.Symbols.{Kind, Part, Parts, group, ambiguous_id, terminal, nonterminal, call, repeated, chosen, named, tupled, lookahead, lookbehind, error_terminal, at, no_parts, part_and}
+use Rattle.lalrpop_norm_tree.specs.Symbols.{Kind, Part, Parts, group, ambiguous_id, terminal, nonterminal, call, repeated, chosen, named, tupled, error_terminal, at, no_parts, part_and}
 use Rattle.lalrpop_norm_theory.specs.Rounds.{In}
 use Rattle.lalrpop_norm_theory.proofs.RoundsLemmas.{in_cases}
 use Rattle.lalrpop_norm_model.specs.Replaced.{replaced_kind, replaced, all_replaced}
 use Rattle.lalrpop_norm_model.specs.PlainRules.{met, all_met}
-use Rattle.lalrpop_norm_model.specs.Terminals.{terminals_in, terminals_in_kind, terminals_in_parts}
+use Rattle.lalrpop_norm_model.specs.Terminals.{terminals_in, terminals_in_parts}
 use Rattle.lalrpop_norm_model.specs.Expanded.{is_plain_terminal, is_plain_kind, is_plain, are_plain}
 
 -- ---- the predicate
@@ -25,9 +26,7 @@ module _ (P : TerminalString → Type 0) (N : List ℕ → Type 0) where
     IsReadyKind (chosen p) = IsReady p
     IsReadyKind (named n p) = IsReady p
     IsReadyKind (tupled ns p) = IsReady p
-    IsReadyKind lookahead = Unit {0}
-    IsReadyKind lookbehind = Unit {0}
-    IsReadyKind error_terminal = Unit {0}
+    IsReadyKind _ = Unit {0}
 
     pub IsReady : Part → Type 0
     IsReady (at s k) = IsReadyKind k
@@ -53,12 +52,11 @@ module _ (P : TerminalString → Type 0) (N : List ℕ → Type 0) where
     met_ready (at s (chosen p)) h q i = met_ready p h q i
     met_ready (at s (named n p)) h q i = met_ready p h q i
     met_ready (at s (tupled ns p)) h q i = met_ready p h q i
-    met_ready (at s lookahead) h q i = itself (at s lookahead) q tt i
-    met_ready (at s lookbehind) h q i = itself (at s lookbehind) q tt i
     met_ready (at s (ambiguous_id a)) h q i = absurd i
     met_ready (at s (terminal t)) h q i = absurd i
     met_ready (at s (nonterminal n)) h q i = absurd i
     met_ready (at s error_terminal) h q i = absurd i
+    met_ready (at s k) h q i = itself (at s k) q tt i
 
     pub all_met_ready : (ps : Parts) → AreReady ps → (q : Part) → In q (all_met ps) → IsReady q
     all_met_ready no_parts h q i = absurd i
@@ -73,17 +71,11 @@ module _ (P : TerminalString → Type 0) (N : List ℕ → Type 0) where
     mutual
       pub kind_plain : (k : Kind) → IsReadyKind k → is_plain_kind (replaced_kind k) ≡ true
       kind_plain (terminal t) h = plain t h
-      kind_plain (nonterminal n) h = refl
       kind_plain (ambiguous_id a) h = absurd h
-      kind_plain (call n ps) h = refl
-      kind_plain (group ps) h = refl
-      kind_plain (repeated op p) h = refl
       kind_plain (chosen p) h = part_plain p h
       kind_plain (named n p) h = part_plain p h
       kind_plain (tupled ns p) h = part_plain p h
-      kind_plain lookahead h = refl
-      kind_plain lookbehind h = refl
-      kind_plain error_terminal h = refl
+      kind_plain _ h = refl
 
       pub part_plain : (p : Part) → IsReady p → is_plain (replaced p) ≡ true
       part_plain (at s k) h = kind_plain k h
@@ -99,22 +91,15 @@ module _ (P : TerminalString → Type 0) (N : List ℕ → Type 0) where
   only_terminal t u h (inr i) = absurd i
 
   mutual
-    kind_terminals : (k : Kind) → IsReadyKind k → (t : TerminalString) → In t (terminals_in_kind (replaced_kind k)) → P t
-    kind_terminals (terminal u) h t i = only_terminal t u h i
-    kind_terminals (nonterminal n) h t i = absurd i
-    kind_terminals (ambiguous_id a) h t i = absurd i
-    kind_terminals (call n ps) h t i = absurd i
-    kind_terminals (group ps) h t i = absurd i
-    kind_terminals (repeated op p) h t i = absurd i
-    kind_terminals (chosen p) h t i = part_terminals p h t i
-    kind_terminals (named n p) h t i = part_terminals p h t i
-    kind_terminals (tupled ns p) h t i = part_terminals p h t i
-    kind_terminals lookahead h t i = absurd i
-    kind_terminals lookbehind h t i = absurd i
-    kind_terminals error_terminal h t i = absurd i
+    kind_terminals : (s : Span) (k : Kind) → IsReadyKind k → (t : TerminalString) → In t (terminals_in (at s (replaced_kind k))) → P t
+    kind_terminals s (terminal u) h t i = only_terminal t u h i
+    kind_terminals s (chosen p) h t i = part_terminals p h t i
+    kind_terminals s (named n p) h t i = part_terminals p h t i
+    kind_terminals s (tupled ns p) h t i = part_terminals p h t i
+    kind_terminals s _ h t i = absurd i
 
     part_terminals : (p : Part) → IsReady p → (t : TerminalString) → In t (terminals_in (replaced p)) → P t
-    part_terminals (at s k) h t i = kind_terminals k h t i
+    part_terminals (at s k) h t i = kind_terminals s k h t i
 
   pub parts_terminals : (ps : Parts) → AreReady ps → (t : TerminalString) → In t (terminals_in_parts (all_replaced ps)) → P t
   parts_terminals no_parts h t i = absurd i

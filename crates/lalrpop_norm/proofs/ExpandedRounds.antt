@@ -1,7 +1,7 @@
 -- What is reached in a whole expansion has a rule of its text; and what holds of all that is reached holds of all that is made.
 use Rattle.std.proofs.Common.{◌≡◌, ◌⊎◌, inl, inr, ℕ, zero, suc, Bool, List, [], ◌∷◌, ◌++◌, map, reverse, refl, ap, sym, subst, ◌∙◌}
 use Rattle.std.specs.Prelude.{flat_map}
-use Rattle.lalrpop_norm_tree.specs.Symbols.{Part, Parts, group, ambiguous_id, terminal, nonterminal, call, repeated, chosen, named, tupled, lookahead, lookbehind, error_terminal, at, no_parts, part_and}
+use Rattle.lalrpop_norm_tree.specs.Symbols.{Part, Parts, group, ambiguous_id, terminal, nonterminal, call, repeated, chosen, named, tupled, error_terminal, at, no_parts, part_and}
 use Rattle.lalrpop_norm_tree.specs.SymbolTexts.{part_text}
 use Rattle.lalrpop_norm_tree.specs.Items.{AlternativeData, RuleData, GrammarData}
 use Rattle.lalrpop_norm_theory.specs.Symbols.{Name, ClosedSymbol}
@@ -82,12 +82,11 @@ mutual
   met_within (at s (chosen x)) p q i j = met_within x p q i j
   met_within (at s (named n x)) p q i j = met_within x p q i j
   met_within (at s (tupled ns x)) p q i j = met_within x p q i j
-  met_within (at s lookahead) p q i j = then_itself (at s lookahead) p q [] refl (λ k. absurd k) i j
-  met_within (at s lookbehind) p q i j = then_itself (at s lookbehind) p q [] refl (λ k. absurd k) i j
   met_within (at s (ambiguous_id a)) p q i j = absurd i
   met_within (at s (terminal t)) p q i j = absurd i
   met_within (at s (nonterminal n)) p q i j = absurd i
   met_within (at s error_terminal) p q i j = absurd i
+  met_within (at s k) p q i j = then_itself (at s k) p q [] refl (λ x. absurd x) i j
 
   all_met_within : (ps : Parts) (p q : Part) → In p (all_met ps) → In q (met p) → In q (all_met ps)
   all_met_within no_parts p q i j = absurd i

@@ -3,7 +3,7 @@ use Rattle.std.proofs.Common.{◌≡◌, ℕ, Bool, true, false, not, List, [], 
 use Rattle.std.proofs.lemmas.Bool.{and_parts}
 use Rattle.lalrpop_norm_tree_names.specs.declared.names.NonterminalString.{NonterminalString}
 use Rattle.lalrpop_norm_tree_names.specs.declared.names.TerminalString.{TerminalString}
-use Rattle.lalrpop_norm_tree.specs.Symbols.{Kind, Part, Parts, group, ambiguous_id, terminal, nonterminal, call, repeated, chosen, named, tupled, lookahead, lookbehind, error_terminal, at, no_parts, part_and}
+use Rattle.lalrpop_norm_tree.specs.Symbols.{Kind, Part, Parts, group, ambiguous_id, terminal, nonterminal, call, repeated, chosen, named, tupled, at, no_parts, part_and}
 use Rattle.lalrpop_norm_tree.specs.Items.{AlternativeData, RuleData, GrammarData}
 use Rattle.lalrpop_norm_theory.specs.Rounds.{In}
 use Rattle.lalrpop_norm_model.specs.Levels.{every}
@@ -33,11 +33,7 @@ module _ (P : TerminalString → Type 0) where
     IsOverKind (chosen p) = IsOver p
     IsOverKind (named n p) = IsOver p
     IsOverKind (tupled ns p) = IsOver p
-    IsOverKind (nonterminal n) = Unit {0}
-    IsOverKind (ambiguous_id a) = Unit {0}
-    IsOverKind lookahead = Unit {0}
-    IsOverKind lookbehind = Unit {0}
-    IsOverKind error_terminal = Unit {0}
+    IsOverKind _ = Unit {0}
 
     pub IsOver : Part → Type 0
     IsOver (at s k) = IsOverKind k
@@ -80,9 +76,7 @@ module _ (g : GrammarData) (S : IsSettled g) (P : TerminalString → Type 0) (N 
     kind_ready (chosen p) h o = part_ready p h o
     kind_ready (named n p) h o = part_ready p h o
     kind_ready (tupled ns p) h o = part_ready p h o
-    kind_ready lookahead h o = tt
-    kind_ready lookbehind h o = tt
-    kind_ready error_terminal h o = tt
+    kind_ready _ h o = tt
 
     pub part_ready : (p : Part) → is_scoped (flat_rules g) [] p ≡ true → IsOver P p → IsReady P N p
     part_ready (at s k) h o = kind_ready k h o

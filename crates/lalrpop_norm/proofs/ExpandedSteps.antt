@@ -4,7 +4,7 @@ use Rattle.std.proofs.Common.{◌≡◌, inl, inr, ℕ, suc, Bool, true, false, 
 use Rattle.std.specs.Prelude.{flat_map, if◌then◌else◌}
 use Rattle.lalrpop_norm_tree_names.specs.declared.names.TerminalString.{TerminalString}
 use Rattle.lalrpop_norm_tree_names.specs.declared.names.TerminalString.TheVariants.{Bare}
-use Rattle.lalrpop_norm_tree.specs.Symbols.{Kind, Part, Parts, group, ambiguous_id, terminal, nonterminal, call, repeated, chosen, named, tupled, lookahead, lookbehind, error_terminal, at, no_parts, part_and}
+use Rattle.lalrpop_norm_tree.specs.Symbols.{Kind, Part, Parts, group, ambiguous_id, terminal, nonterminal, call, repeated, chosen, named, tupled, at, no_parts, part_and}
 use Rattle.lalrpop_norm_tree.specs.Items.{AlternativeData, RuleData, ItemData, GrammarData, match_item, extern_item, intern_item, rule_item, use_item}
 use Rattle.lalrpop_norm_theory.specs.Rounds.{In}
 use Rattle.lalrpop_norm_theory.proofs.RoundsLemmas.{in_cases, of_flat}
@@ -81,16 +81,13 @@ module _ (P : TerminalString → Type 0) (sense : List ℕ → Option Sense) (ba
     resolved_kind_over : (k : Kind) → IsOverKind P k → IsOverKind P (resolved_kind sense k)
     resolved_kind_over (ambiguous_id a) h = name_over a (sense a) refl
     resolved_kind_over (terminal t) h = h
-    resolved_kind_over (nonterminal n) h = tt
     resolved_kind_over (group ps) h = resolved_over ps h
     resolved_kind_over (call n ps) h = resolved_over ps h
     resolved_kind_over (repeated op p) h = resolved_part_over p h
     resolved_kind_over (chosen p) h = resolved_part_over p h
     resolved_kind_over (named n p) h = resolved_part_over p h
     resolved_kind_over (tupled ns p) h = resolved_part_over p h
-    resolved_kind_over lookahead h = tt
-    resolved_kind_over lookbehind h = tt
-    resolved_kind_over error_terminal h = tt
+    resolved_kind_over _ h = tt
 
     resolved_part_over : (p : Part) → IsOver P p → IsOver P (resolved_part sense p)
     resolved_part_over (at s k) h = resolved_kind_over k h
@@ -126,11 +123,14 @@ module _ (P : TerminalString → Type 0) (bare : (a : List ℕ) → P (Bare a)) 
 
 -- ---- with levels
 
-module _ (P : TerminalString → Type 0) (own : List ℕ → Bool) (level : ℕ → ℕ → List ℕ) where
+module _ (P : TerminalString → Type 0) (own : List ℕ → Bool) (level : ℕ → ℕ → Kind) (fits : (before after : ℕ) → IsOverKind P (level before after)) where
+  occurrence_over : (x : Bool) (before after : ℕ) (n : List ℕ) → IsOverKind P (if x then level before after else nonterminal n)
+  occurrence_over true before after n = fits before after
+  occurrence_over false before after n = tt
+
   mutual
     leveled_kind_over : (before after : ℕ) (k : Kind) → IsOverKind P k → IsOverKind P (leveled_kind own level before after k)
-    leveled_kind_over before after (nonterminal n) h = tt
-    leveled_kind_over before after (ambiguous_id a) h = tt
+    leveled_kind_over before after (nonterminal n) h = occurrence_over (own n) before after n
     leveled_kind_over before after (terminal t) h = h
     leveled_kind_over before after (group ps) h = leveled_over before after ps h
     leveled_kind_over before after (call n ps) h = leveled_over before after ps h
@@ -138,9 +138,7 @@ module _ (P : TerminalString → Type 0) (own : List ℕ → Bool) (level : ℕ 
     leveled_kind_over before after (chosen p) h = leveled_part_over before after p h
     leveled_kind_over before after (named n p) h = leveled_part_over before after p h
     leveled_kind_over before after (tupled ns p) h = leveled_part_over before after p h
-    leveled_kind_over before after lookahead h = tt
-    leveled_kind_over before after lookbehind h = tt
-    leveled_kind_over before after error_terminal h = tt
+    leveled_kind_over before after _ h = tt
 
     leveled_part_over : (before after : ℕ) (p : Part) → IsOver P p → IsOver P (leveled_part own level before after p)
     leveled_part_over before after (at s k) h = leveled_kind_over before after k h
@@ -160,7 +158,7 @@ module _ (P : TerminalString → Type 0) (d : RuleData) (f : IsFitRule P d) wher
   ps = with_levels (all_places d)
 
   level_alternative_fit : (a : Leveled) → In a.alternative d.alternatives → AreOver P (level_alternative d ps a).parts
-  level_alternative_fit a i = leveled_over P (is_own d) _ 0 0 a.alternative.parts (f.over a.alternative i)
+  level_alternative_fit a i = leveled_over P (is_own d) _ (λ before after. tt) 0 0 a.alternative.parts (f.over a.alternative i)
 
   step_fit : (o : Option ℕ) (a : AlternativeData) → In a (step_alternatives d ps o) → AreOver P a.parts
   step_fit None a i = absurd i

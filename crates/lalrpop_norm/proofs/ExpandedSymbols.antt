@@ -6,15 +6,15 @@ use Rattle.lalrpop_norm_tree_names.specs.declared.names.NonterminalString.{Nonte
 use Rattle.lalrpop_norm_tree_names.specs.declared.names.Span.{Span}
 use Rattle.lalrpop_norm_tree_names.specs.declared.names.TerminalString.{TerminalString}
 use Rattle.lalrpop_norm_tree.specs.declared.symbol.RepeatOp.TheVariants.{Star, Plus, Question, Times}
-use Rattle.lalrpop_norm_tree.specs.Symbols.{Kind, Part, Parts, group, ambiguous_id, terminal, nonterminal, call, repeated, chosen, named, tupled, lookahead, lookbehind, error_terminal, at, no_parts, part_and}
+use Rattle.lalrpop_norm_tree.specs.Symbols.{Kind, Part, Parts, group, ambiguous_id, terminal, nonterminal, call, repeated, chosen, named, tupled, error_terminal, at, no_parts, part_and}
 use Rattle.lalrpop_norm_tree.specs.SymbolTexts.{kind_text, part_text}
 use Rattle.lalrpop_norm_tree.specs.Types.{TypeData, TypesData, MaybeType, tuple, slice, nominal, reference, trait_object, of_lifetime, id, of_symbol, function, no_types, type_and, no_type, returns, types_of}
-use Rattle.lalrpop_norm_tree.specs.Items.{RuleData, lookahead_code, lookbehind_code}
+use Rattle.lalrpop_norm_tree.specs.Items.{RuleData}
 use Rattle.lalrpop_norm_theory.specs.Rounds.{In}
 use Rattle.lalrpop_norm_theory.proofs.RoundsLemmas.{in_left, in_right, in_cases}
 use Rattle.lalrpop_norm_theory.proofs.ListLemmas.{in_one}
 use Rattle.lalrpop_norm_model.specs.Grammars.{ConditionValue}
-use Rattle.lalrpop_norm_model.specs.MadeRules.{kind_of, chosen_kinds, all_kinds, if_any, group_sources, type_of_kind, bare_or_tuple, group_rule, star_rule, plus_rule, question_rule, times_rule, location_rule, argument_kind, type_of_name, type_substituted, types_substituted, returned_substituted, instance_rule, instance_of, macro_named, made_rules}
+use Rattle.lalrpop_norm_model.specs.MadeRules.{kind_of, chosen_kinds, all_kinds, if_any, group_sources, type_of_kind, bare_or_tuple, group_rule, star_rule, plus_rule, question_rule, times_rule, argument_kind, type_of_name, type_substituted, types_substituted, returned_substituted, instance_rule, instance_of, macro_named, made_rules}
 use Rattle.lalrpop_norm_model.specs.Replaced.{replaced_kind, replaced, all_replaced}
 use Rattle.lalrpop_norm_model.specs.PlainRules.{met, all_met}
 use Rattle.lalrpop_norm_model.specs.Expanded.{is_plain_terminal, is_plain_kind, names_in_kind, names_in, names_in_parts, symbols_in, symbols_in_all, symbols_in_return, declared_symbols}
@@ -120,12 +120,11 @@ module _ (P : TerminalString → Type 0) (plain : (t : TerminalString) → P t �
     kind_named s (chosen p) h c n i = part_named p h c n i
     kind_named s (named m p) h c n i = part_named p h c n i
     kind_named s (tupled ns p) h c n i = part_named p h c n i
-    kind_named s lookahead h c n i = same_name n (kind_text lookahead) (c (at s lookahead) (inl refl)) i
-    kind_named s lookbehind h c n i = same_name n (kind_text lookbehind) (c (at s lookbehind) (inl refl)) i
     kind_named s (ambiguous_id a) h c n i = absurd h
     kind_named s (terminal t) h c n i = absurd i
     kind_named s (nonterminal m) h c n i = same_name n m h i
     kind_named s error_terminal h c n i = absurd i
+    kind_named s k h c n i = same_name n (kind_text k) (c (at s k) (inl refl)) i
 
     part_named : (p : Part) → IsReady P Named p → Covered (met p) → (n : List ℕ) → In n (names_in (replaced p)) → Named n
     part_named (at s k) h c n i = kind_named s k h c n i
@@ -157,17 +156,7 @@ module _ (P : TerminalString → Type 0) (plain : (t : TerminalString) → P t �
   chosen_settled (part_and (at s (chosen p)) ps) h c k (inl e) =
       subst (λ j. IsSettledSymbol (replaced_kind j)) (sym e) (part_settled p h.0 (covered_left (met p) (all_met ps) c))
   chosen_settled (part_and (at s (chosen p)) ps) h c k (inr i) = chosen_settled ps h.1 (covered_right (met p) (all_met ps) c) k i
-  chosen_settled (part_and (at s (group qs)) ps) h c k i = chosen_settled ps h.1 (covered_right (met (at s (group qs))) (all_met ps) c) k i
-  chosen_settled (part_and (at s (call n qs)) ps) h c k i = chosen_settled ps h.1 (covered_right (met (at s (call n qs))) (all_met ps) c) k i
-  chosen_settled (part_and (at s (repeated op p)) ps) h c k i = chosen_settled ps h.1 (covered_right (met (at s (repeated op p))) (all_met ps) c) k i
-  chosen_settled (part_and (at s (named n p)) ps) h c k i = chosen_settled ps h.1 (covered_right (met p) (all_met ps) c) k i
-  chosen_settled (part_and (at s (tupled ns p)) ps) h c k i = chosen_settled ps h.1 (covered_right (met p) (all_met ps) c) k i
-  chosen_settled (part_and (at s lookahead) ps) h c k i = chosen_settled ps h.1 (covered_right (met (at s lookahead)) (all_met ps) c) k i
-  chosen_settled (part_and (at s lookbehind) ps) h c k i = chosen_settled ps h.1 (covered_right (met (at s lookbehind)) (all_met ps) c) k i
-  chosen_settled (part_and (at s (ambiguous_id a)) ps) h c k i = chosen_settled ps h.1 c k i
-  chosen_settled (part_and (at s (terminal t)) ps) h c k i = chosen_settled ps h.1 c k i
-  chosen_settled (part_and (at s (nonterminal n)) ps) h c k i = chosen_settled ps h.1 c k i
-  chosen_settled (part_and (at s error_terminal) ps) h c k i = chosen_settled ps h.1 c k i
+  chosen_settled (part_and (at s x) ps) h c k i = chosen_settled ps h.1 (covered_right (met (at s x)) (all_met ps) c) k i
 
   either : (Q : Kind → Type 0) (xs ys : List Kind) → ((k : Kind) → In k xs → Q k) → ((k : Kind) → In k ys → Q k) → (k : Kind) → In k (if_any xs ys) → Q k
   either Q [] ys f g k i = g k i
@@ -201,6 +190,10 @@ module _ (P : TerminalString → Type 0) (plain : (t : TerminalString) → P t �
   of_only : (d r : RuleData) → ((k : Kind) → In k (declared_symbols d) → IsSettledSymbol k) → In r (d ∷ []) → (k : Kind) → In k (declared_symbols r) → IsSettledSymbol k
   of_only d r f i k j = f k (subst (λ (x : RuleData). In k (declared_symbols x)) (in_one r d i) j)
 
+  sole_settled : (d r : RuleData) → In r (d ∷ []) → ((k : Kind) → In k (declared_symbols d) → IsSettledSymbol k) → (k : Kind) → In k (declared_symbols r) →
+      IsSettledSymbol k
+  sole_settled d r i f = of_only d r f i
+
   one_symbol : (p : Part) → IsReady P Named p → Covered (met p) → (k : Kind) → In k (replaced_kind (kind_of p) ∷ []) → IsSettledSymbol k
   one_symbol p h c k i = subst IsSettledSymbol (sym (in_one k (replaced_kind (kind_of p)) i)) (part_settled p h c)
 
@@ -230,8 +223,6 @@ module _ (P : TerminalString → Type 0) (plain : (t : TerminalString) → P t �
   made_settled value macros bare (at s (repeated Plus p)) h c r i k j = of_only (plus_rule s p) r (one_symbol p h (covered_left (met p) (at s (repeated Plus p) ∷ []) c)) i k j
   made_settled value macros bare (at s (repeated Question p)) h c r i k j = of_only (question_rule s p) r (one_symbol p h (covered_left (met p) (at s (repeated Question p) ∷ []) c)) i k j
   made_settled value macros bare (at s (repeated (Times n) p)) h c r i k j = of_only (times_rule s n p) r (one_symbol p h (covered_left (met p) (at s (repeated (Times n) p) ∷ []) c)) i k j
-  made_settled value macros bare (at s lookahead) h c r i k j = of_only (location_rule s lookahead lookahead_code) r (λ x m. absurd m) i k j
-  made_settled value macros bare (at s lookbehind) h c r i k j = of_only (location_rule s lookbehind lookbehind_code) r (λ x m. absurd m) i k j
   made_settled value macros bare (at s (ambiguous_id a)) h c r i k j = absurd i
   made_settled value macros bare (at s (terminal t)) h c r i k j = absurd i
   made_settled value macros bare (at s (nonterminal n)) h c r i k j = absurd i
@@ -239,3 +230,4 @@ module _ (P : TerminalString → Type 0) (plain : (t : TerminalString) → P t �
   made_settled value macros bare (at s (named n p)) h c r i k j = absurd i
   made_settled value macros bare (at s (tupled ns p)) h c r i k j = absurd i
   made_settled value macros bare (at s error_terminal) h c r i k j = absurd i
+  made_settled value macros bare (at s x) h c r i k j = sole_settled _ r i (λ y m. absurd m) k j

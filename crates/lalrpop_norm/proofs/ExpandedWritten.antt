@@ -18,7 +18,7 @@ use Rattle.lalrpop_norm_tree.specs.declared.items.MatchMapping.TheVariants.{Term
 use Rattle.lalrpop_norm_tree.specs.Items.{AlternativeData, RuleData, AssociatedTypeData, ConversionData, EnumTokenData, ExternTokenData, MatchTokenData, InternTokenData, ItemData, GrammarData, match_item, extern_item, intern_item, rule_item, use_item}
 use Rattle.lalrpop_norm_tree.specs.LoweredTypes.{holds_symbol, any_holds_symbol, result_holds_symbol}
 use Rattle.lalrpop_norm_tree_patterns.specs.Patterns as pattern
-use Rattle.lalrpop_norm_tree.specs.Symbols.{Kind, Part, Parts, group, ambiguous_id, terminal, nonterminal, call, repeated, chosen, named, tupled, lookahead, lookbehind, error_terminal, at, no_parts, part_and}
+use Rattle.lalrpop_norm_tree.specs.Symbols.{Kind, Part, Parts, group, terminal, call, repeated, chosen, named, tupled, at, no_parts, part_and}
 use Rattle.lalrpop_norm_tree.specs.Types.{TypeData, TypesData, MaybeType, ParameterData, tuple, slice, nominal, reference, trait_object, of_lifetime, id, of_symbol, function, no_types, type_and, no_type, returns}
 use Rattle.lalrpop_norm_theory.specs.Rounds.{In}
 use Rattle.lalrpop_norm_theory.proofs.RoundsLemmas.{in_cases, of_flat}
@@ -478,16 +478,12 @@ module _ (g : GrammarData) where
     kind_over : (s : Span) (k : Kind) → kind_faults (surroundings_of g) s k ≡ [] → IsOverKind IsPlainTerminal k
     kind_over s (terminal t) f = terminal_over s t f
     kind_over s (group ps) f = parts_over ps (both_empty (parts_faults (surroundings_of g) ps) (beside_faults ps) f).0
-    kind_over s (ambiguous_id a) f = tt
-    kind_over s (nonterminal n) f = tt
     kind_over s (call n ps) f = parts_over ps (both_empty (call_faults s ps) (parts_faults (surroundings_of g) ps) f).1
     kind_over s (repeated op p) f = part_over p f
     kind_over s (chosen p) f = part_over p f
     kind_over s (named n p) f = part_over p f
     kind_over s (tupled ns p) f = part_over p f
-    kind_over s lookahead f = tt
-    kind_over s lookbehind f = tt
-    kind_over s error_terminal f = tt
+    kind_over s _ f = tt
 
     part_over : (p : Part) → part_faults (surroundings_of g) p ≡ [] → IsOver IsPlainTerminal p
     part_over (at s k) f = kind_over s k f

@@ -2,9 +2,8 @@
 use Rattle.std.proofs.Common.{◌≡◌, inl, inr, ℕ, Bool, true, false, List, [], ◌∷◌, ◌++◌, map, refl, sym, ap, ◌∙◌}
 use Rattle.std.specs.Prelude.{◌⊎◌, Option, Some, None, option_map, unwrap_or, bytes_eq, if◌then◌else◌}
 use Rattle.lalrpop_norm_tree_names.specs.declared.names.NonterminalString.{NonterminalString}
-use Rattle.lalrpop_norm_tree.specs.Accessors.{is_public}
 use Rattle.lalrpop_norm_tree.specs.Items.{RuleData}
-use Rattle.lalrpop_norm_theory.specs.Symbols.{Name, ClosedSymbol, terminal, error, reference, call, group, star, plus, question, times, wrapped, lookahead, lookbehind}
+use Rattle.lalrpop_norm_theory.specs.Symbols.{Name, ClosedSymbol, terminal, error, reference, wrapped}
 use Rattle.lalrpop_norm_theory.specs.LoweredTrees.{Origin}
 use Rattle.lalrpop_norm_theory.specs.Rounds.{In}
 use Rattle.lalrpop_norm_theory.specs.Met.{BecomesRule, IsKnown}
@@ -27,14 +26,7 @@ made_known name declared met (terminal a) b i = absurd b
 made_known name declared met error b i = absurd b
 made_known name declared met (reference n c) b i = absurd b
 made_known name declared met (wrapped w g) b i = absurd b
-made_known name declared met (call n args) b i = (i, refl)
-made_known name declared met (group gs) b i = (i, refl)
-made_known name declared met (star x) b i = (i, refl)
-made_known name declared met (plus x) b i = (i, refl)
-made_known name declared met (question x) b i = (i, refl)
-made_known name declared met (times n x) b i = (i, refl)
-made_known name declared met lookahead b i = (i, refl)
-made_known name declared met lookbehind b i = (i, refl)
+made_known name declared met _ b i = (i, refl)
 
 -- what is found is a row of that name
 row_found : {V : Type 0} (n : Name) (rows : List (NonterminalString × V)) (v : V) → found (record { 0 = n }) rows ≡ Some v →

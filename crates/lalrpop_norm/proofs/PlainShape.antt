@@ -28,18 +28,10 @@ use Rattle.lalrpop_norm_lower.proofs.SourceLemmas.{replicated}
 
 mutual
   kind_same : (k : Kind) → tree_symbol (late.lowered_kind k) ≡ plain_symbol_kind k
-  kind_same (written.terminal t) = refl
-  kind_same (written.nonterminal n) = refl
   kind_same (written.chosen p) = part_same p
   kind_same (written.named n p) = part_same p
   kind_same (written.tupled ns p) = part_same p
-  kind_same (written.group ps) = refl
-  kind_same (written.ambiguous_id a) = refl
-  kind_same (written.call n ps) = refl
-  kind_same (written.repeated op p) = refl
-  kind_same written.lookahead = refl
-  kind_same written.lookbehind = refl
-  kind_same written.error_terminal = refl
+  kind_same _ = refl
 
   part_same : (p : Part) → tree_symbol (lowered_symbol p) ≡ lowered_part p
   part_same (at s k) = kind_same k

@@ -279,10 +279,7 @@ module _ (f : RuleData → WrittenRule) (named : (d : RuleData) → (f d).name �
         kind_scoped s (written.named n p) h e = part_scoped p h (cc e)
         kind_scoped s (written.tupled ns p) h e = part_scoped p h (cc e)
         kind_scoped s (written.ambiguous_id a) h e = absurd (no_id s a (is_argument args a) (definition_of (globals g) a) h e)
-        kind_scoped s (written.terminal t) h e = refl
-        kind_scoped s written.lookahead h e = refl
-        kind_scoped s written.lookbehind h e = refl
-        kind_scoped s written.error_terminal h e = refl
+        kind_scoped s _ h e = refl
 
         part_scoped : (p : Part) → part_name_faults sense p ≡ [] → resolved_part sense p ≡ p → is_scoped rules_read args p ≡ true
         part_scoped (at s k) h e = kind_scoped s k h (cc e)

@@ -3,7 +3,7 @@
 use Rattle.std.proofs.Common.{◌≡◌, ◌+◌, inl, inr, ℕ, List, [], ◌∷◌, ◌++◌, map, refl, sym, ap, ap₂, ◌∙◌, subst}
 use Rattle.std.specs.Prelude.{flat_map}
 use Rattle.std.proofs.lemmas.List.{map-append}
-use Rattle.lalrpop_norm_theory.specs.Symbols.{Name, ClosedSymbol, ClosedSymbols, terminal, error, reference, call, group, star, plus, question, times, wrapped, lookahead, lookbehind, no_symbols, symbol_and}
+use Rattle.lalrpop_norm_theory.specs.Symbols.{Name, ClosedSymbol, ClosedSymbols, reference, call, group, star, plus, question, times, wrapped, no_symbols, symbol_and}
 use Rattle.lalrpop_norm_theory.specs.Meaning.{Meaning, HasCounts, HasLevels}
 use Rattle.lalrpop_norm_theory.specs.LoweredTrees.{Origin}
 use Rattle.lalrpop_norm_theory.specs.Clauses.{Clause, IsNonterminal, clauses, symbols_of}
@@ -47,27 +47,16 @@ module _ (M L : Meaning) (l : Name → ℕ → Name) (origin : Name → ℕ → 
 
   -- the rule of a symbol in the grammar with levels is its rule in the written one
   pub leveled_read : (g : ClosedSymbol) → IsResolvedIn declared g → map parts_of (clauses L (leveled_symbol l g)) ≡ map (leveled_parts l) (clauses M g)
-  leveled_read (terminal a) r = refl
-  leveled_read error r = refl
-  leveled_read (wrapped w g) r = refl
   leveled_read (reference m b) r = read_at (reference m b) tt r
   leveled_read (call m args) r = read_at (call m args) tt r
-  leveled_read (group gs) r = refl
-  leveled_read (star x) r = refl
-  leveled_read (plus x) r = refl
-  leveled_read (question x) r = refl
   leveled_read (times n x) r = read_at (times n x) tt r
-  leveled_read lookahead r = refl
-  leveled_read lookbehind r = refl
+  leveled_read _ r = refl
 
 -- ---- what is reached
 
 module _ (l : Name → ℕ → Name) where
   mutual
     meets_leveled : (g : ClosedSymbol) → map (leveled_symbol l) (meets g) ≡ meets (leveled_symbol l g)
-    meets_leveled (terminal a) = refl
-    meets_leveled error = refl
-    meets_leveled (reference n b) = refl
     meets_leveled (call n args) =
         map-append (leveled_symbol l) (meets_all args) (call n args ∷ []) ∙ ap (λ gs. gs ++ call n (leveled_symbols l args) ∷ []) (all_leveled args)
     meets_leveled (group gs) =
@@ -79,8 +68,7 @@ module _ (l : Name → ℕ → Name) where
     meets_leveled (times n x) =
         map-append (leveled_symbol l) (meets x) (times n x ∷ []) ∙ ap (λ hs. hs ++ times n (leveled_symbol l x) ∷ []) (meets_leveled x)
     meets_leveled (wrapped w g) = meets_leveled g
-    meets_leveled lookahead = refl
-    meets_leveled lookbehind = refl
+    meets_leveled _ = refl
 
     all_leveled : (gs : ClosedSymbols) → map (leveled_symbol l) (meets_all gs) ≡ meets_all (leveled_symbols l gs)
     all_leveled no_symbols = refl

@@ -9,7 +9,7 @@ use Rattle.lalrpop_norm_tree.specs.Items.{RuleData, GrammarData}
 use Rattle.lalrpop_norm_tree.specs.Symbols as written
 use Rattle.lalrpop_norm_tree.specs.Symbols.{Kind, Part, Parts, at, no_parts, part_and}
 use Rattle.lalrpop_norm_tree_names.specs.Texts.{joined}
-use Rattle.lalrpop_norm_theory.specs.Symbols.{Name, ClosedSymbol, ClosedSymbols, terminal, error, reference, call, group, star, plus, question, times, wrapped, lookahead, lookbehind, no_symbols, symbol_and}
+use Rattle.lalrpop_norm_theory.specs.Symbols.{Name, ClosedSymbol, ClosedSymbols, reference, call, group, star, plus, question, times, wrapped, no_symbols, symbol_and}
 use Rattle.lalrpop_norm_theory.specs.Meaning.{Meaning}
 use Rattle.lalrpop_norm_theory.specs.Clauses.{Clause, numbered, step_clauses, clauses}
 use Rattle.lalrpop_norm_theory.specs.Rounds.{In, IsDistinct}
@@ -207,11 +207,7 @@ module _ (ws : List WrittenRule) where
       kind_closed (written.chosen p) = part_closed p
       kind_closed (written.named n p) = part_closed p
       kind_closed (written.tupled ns p) = part_closed p
-      kind_closed (written.ambiguous_id a) = refl
-      kind_closed (written.terminal t) = refl
-      kind_closed written.lookahead = refl
-      kind_closed written.lookbehind = refl
-      kind_closed written.error_terminal = refl
+      kind_closed _ = refl
 
       part_closed : (p : Part) → is_scoped (map closed_up ws) args p ≡ is_scoped ws args p
       part_closed (at s k) = kind_closed k
@@ -270,8 +266,6 @@ module _ (ws : List WrittenRule) (S : IsScoped ws) (D : IsDistinct (map (λ (w :
 module _ (low ws : List WrittenRule) (l : Name → ℕ → Name) (same : (n : Name) (b : Option ℕ) → level_reference l n b ≡ reference_name ws n b) where
   mutual
     text_leveled : (g : ClosedSymbol) → closed_text (reference_name low) (leveled_symbol l g) ≡ closed_text (reference_name ws) g
-    text_leveled (terminal a) = refl
-    text_leveled error = refl
     text_leveled (reference n b) = same n b
     text_leveled (call n gs) = ap (λ ts. n ++ codes "<" ++ joined (codes ", ") ts ++ codes ">") (texts_leveled gs)
     text_leveled (group gs) = ap (λ ts. codes "(" ++ joined (codes " ") ts ++ codes ")") (texts_leveled gs)
@@ -280,8 +274,7 @@ module _ (low ws : List WrittenRule) (l : Name → ℕ → Name) (same : (n : Na
     text_leveled (question x) = ap (λ t. t ++ codes "?") (text_leveled x)
     text_leveled (times n x) = ap (λ t. t ++ (codes "{" ++ decimal n ++ codes "}")) (text_leveled x)
     text_leveled (wrapped w g) = ap (wrapped_text w) (text_leveled g)
-    text_leveled lookahead = refl
-    text_leveled lookbehind = refl
+    text_leveled _ = refl
 
     texts_leveled : (gs : ClosedSymbols) → closed_texts (reference_name low) (leveled_symbols l gs) ≡ closed_texts (reference_name ws) gs
     texts_leveled no_symbols = refl

@@ -4,7 +4,7 @@ use Rattle.std.specs.Prelude.{flat_map}
 use Rattle.lalrpop_norm_tree_names.specs.declared.names.Span.{Span}
 use Rattle.lalrpop_norm_tree.specs.declared.symbol.RepeatOp.{RepeatOp}
 use Rattle.lalrpop_norm_tree.specs.declared.symbol.RepeatOp.TheVariants.{Star, Plus, Question, Times}
-use Rattle.lalrpop_norm_tree.specs.Symbols.{Kind, Part, Parts, group, ambiguous_id, terminal, nonterminal, call, repeated, chosen, named, tupled, lookahead, lookbehind, error_terminal, at}
+use Rattle.lalrpop_norm_tree.specs.Symbols.{Kind, Part, Parts, group, call, repeated, at}
 use Rattle.lalrpop_norm_tree.specs.Items.{AlternativeData, RuleData}
 use Rattle.lalrpop_norm_tree.specs.declared.items.Condition.{Condition}
 use Rattle.lalrpop_norm_faults.specs.declared.kind.FaultKind.{FaultKind}
@@ -60,15 +60,7 @@ module _ (number : FaultKind) (not_group : number ≡ NamedInGroup → ⊥) (not
       not_if (some_name_value ps) (NamedInGroup, s) (number, t) (λ e. not_group (ap (λ (f : Fault). f.0) e)) i
   not_made macros (at s (call n ps)) t i = not_called (macro_named macros n) ps t i
   not_made macros (at s (repeated op p)) t i = not_repeated s op p t i
-  not_made macros (at s (ambiguous_id a)) t i = i
-  not_made macros (at s (terminal u)) t i = i
-  not_made macros (at s (nonterminal n)) t i = i
-  not_made macros (at s (chosen p)) t i = i
-  not_made macros (at s (named n p)) t i = i
-  not_made macros (at s (tupled ns p)) t i = i
-  not_made macros (at s lookahead) t i = i
-  not_made macros (at s lookbehind) t i = i
-  not_made macros (at s error_terminal) t i = i
+  not_made macros (at s _) t i = i
 
   pub none_made : (macros : List RuleData) (ps : List Part) (t : Span) → In (number, t) (flat_map (unmade macros) ps) → ⊥
   none_made macros [] t i = i

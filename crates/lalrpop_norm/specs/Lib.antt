@@ -6,5 +6,6 @@ pub mod WayBack
 pub mod Roots
 pub mod TracedLists
 pub mod PlainLaws
+pub mod UnderSession
 pub mod Laws
 pub mod Maps

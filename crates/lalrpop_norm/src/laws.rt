@@ -1,8 +1,10 @@
 //! What is proved of the definitions alone. Each function here is a law: it does nothing, and its contract is a theorem, whose
 //! statement is in `specs/Laws.antt`, of maps in `specs/Maps.antt`, of the way back in `specs/WayBack.antt`.
-ghost use Rattle.lalrpop_norm.specs.Laws.{CapIsExact, ConditionsHaveOneValue, FaultsAreByRound, LevelsSettleMacros, LoweredTreesAreFaithful, NamesAreOwn, WordsAreEqual};
+ghost use Rattle.lalrpop_norm.specs.Laws.{CapIsExact, ConditionsHaveOneValue, FaultsAreByRound, LevelsSettleMacros};
+ghost use Rattle.lalrpop_norm.specs.Laws.{LoweredTreesAreFaithful, NamesAreOwn, WordsAreEqual};
 ghost use Rattle.lalrpop_norm.specs.Laws.{EachClassHasOneRule, ListsAreActionOrigins, ResolvedGrammarsAreSettled, SharedNamesStandExactly};
-ghost use Rattle.lalrpop_norm.specs.Maps.{PatternsCompose, PatternKindsCompose, FieldPatternsCompose, BoundsCompose, BoundParametersCompose};
+ghost use Rattle.lalrpop_norm.specs.Maps.{PatternsCompose, PatternKindsCompose, FieldPatternsCompose};
+ghost use Rattle.lalrpop_norm.specs.Maps.{BoundsCompose, BoundParametersCompose};
 ghost use Rattle.lalrpop_norm.specs.WayBack.{LevelsAreNarrow, RulesAreAmbiguousExactly, TracedCallsFit, TracedCallFitsAnywhere};
 
 /// The trees of what an expanded grammar is lowered to, once it has its tokens, correspond one to one to the written trees,

@@ -1,23 +1,19 @@
 //! The passes, one after another.
-ghost use Rattle.std.specs.Prelude.{◌≡◌, [], IfOk, flat_map};
+ghost use Rattle.std.specs.Prelude.{◌≡◌, IfOk};
 ghost use Rattle.lalrpop_norm_faults.specs.Faults.{Refuses, RefusesAmong};
-ghost use Rattle.lalrpop_norm_tree.specs.Items as written;
+ghost use Rattle.lalrpop_norm_tree.specs.Items.{grammar_view};
 ghost use Rattle.lalrpop_norm_session.specs.Sessions.{features_view};
-ghost use Rattle.lalrpop_norm_repr.specs.Lowered as lowered;
+ghost use Rattle.lalrpop_norm_repr.specs.Lowered.{lowered_grammar_view};
 ghost use Rattle.lalrpop_norm_repr.specs.Closed.{IsClosed};
-ghost use Rattle.lalrpop_norm_model.specs.Enabled.{enabled_grammar};
 ghost use Rattle.lalrpop_norm_model.specs.Expanded.{IsExpanded};
 ghost use Rattle.lalrpop_norm_model.specs.LexerFaults.{StandsAtLexer};
 ghost use Rattle.lalrpop_norm_origins.specs.Origins.{origin_lists};
-ghost use Rattle.lalrpop_norm_explain.specs.Laws.{CallsFit};
 ghost use Rattle.lalrpop_norm_explain.specs.TracedGrammars.{grammar_in, grammar_of, is_root, origins_in};
-ghost use Rattle.lalrpop_norm.specs.Faithful.{IsFaithful, grammar_of_plain_rules, origins_of_actions, written_meaning, written_name};
-ghost use Rattle.lalrpop_norm.specs.Normalize.{normalize_findings, plain_findings, early_faults, late_faults, StandsThere};
+ghost use Rattle.lalrpop_norm.specs.Normalize.{plain_findings, late_faults};
 ghost use Rattle.lalrpop_norm.specs.Passed.{IsPlain, IsCheckedLowering, IsTypedLowering, IsTypedByInference};
-ghost use Rattle.lalrpop_norm.specs.PlainLaws.{PassesExpansion};
-ghost use Rattle.lalrpop_norm.specs.Roots.{plain_names, with_rule_names};
-ghost use Rattle.lalrpop_norm.specs.TracedLists.{lists_of_plain_rules};
-ghost use Rattle.lalrpop_norm.specs.WayBack.{AreRoots, FitsAnywhere};
+ghost use Rattle.lalrpop_norm.specs.UnderSession.{AreRootsUnder, CallsFitUnder, FitsAnywhereUnder, IsFaithfulUnder, PassesExpansionUnder};
+ghost use Rattle.lalrpop_norm.specs.UnderSession.{StandsUnder, early_faults_under, findings_under, origins_under, plain_lists_under};
+ghost use Rattle.lalrpop_norm.specs.UnderSession.{plain_under, root_names_under};
 
 use crate::traced::{Plain, names_of_written_rules, origins_in_order};
 use lalrpop_norm_explain::{Traced, with_origins};
@@ -49,16 +45,16 @@ pub fn normalize<L: Lexer>(
 ) -> NormResult<repr::Grammar>
     // Ok only if no fault but one of the lexer holds, and an error names the first one, or a true one of the lexer with no
     // other before it, unless an allocation fails.
-    ensures refuses { RefusesAmong (StandsThere (L.relations session.now.lexer) (features_view session.now.features) session.now.macro_recursion_limit (written.grammar_view grammar))
-        result (normalize_findings (features_view session.now.features) session.now.macro_recursion_limit (written.grammar_view grammar)) }
-    ensures closed { IfOk result (λ l. IsClosed (lowered.lowered_grammar_view l)) }
-    ensures faithful { IfOk result (λ l. IsFaithful (L.relations session.now.lexer) (features_view session.now.features) session.now.macro_recursion_limit (written.grammar_view grammar) (lowered.lowered_grammar_view l)) }
+    ensures refuses { RefusesAmong (StandsUnder session.now grammar (L.relations session.now.lexer)) result
+        (findings_under session.now grammar) }
+    ensures closed { IfOk result (λ l. IsClosed (lowered_grammar_view l)) }
+    ensures faithful { IfOk result (λ l. IsFaithfulUnder session.now grammar (L.relations session.now.lexer) (lowered_grammar_view l)) }
 {
     let plain = expand(alloc, session, grammar)?;
     check_and_lower(alloc, session, plain)
 }
 
-/// The same as [`normalize`], and where each production comes from: by that [`explain`](lalrpop_norm_explain::explain),
+/// Normalizes as [`normalize`] does, and says where each production comes from: by that [`explain`](lalrpop_norm_explain::explain),
 /// [`explain_at`](lalrpop_norm_explain::explain_at) and [`lower_tree`](lalrpop_norm_explain::lower_tree) translate trees.
 ///
 /// Errors: those of `normalize`.
@@ -67,19 +63,18 @@ pub fn normalize_traced<L: Lexer>(
     session: &Session<L>,
     grammar: parse_tree::Grammar,
 ) -> NormResult<Traced>
-    ensures refuses { RefusesAmong (StandsThere (L.relations session.now.lexer) (features_view session.now.features) session.now.macro_recursion_limit (written.grammar_view grammar))
-        result (normalize_findings (features_view session.now.features) session.now.macro_recursion_limit (written.grammar_view grammar)) }
+    ensures refuses { RefusesAmong (StandsUnder session.now grammar (L.relations session.now.lexer)) result
+        (findings_under session.now grammar) }
     ensures closed { IfOk result (λ t. IsClosed (grammar_in t)) }
-    ensures faithful { IfOk result (λ t. IsFaithful (L.relations session.now.lexer) (features_view session.now.features) session.now.macro_recursion_limit (written.grammar_view grammar) (grammar_in t)) }
+    ensures faithful { IfOk result (λ t. IsFaithfulUnder session.now grammar (L.relations session.now.lexer) (grammar_in t)) }
     // Each action has the origin by which the trees are faithful.
-    ensures origins { IfOk result (λ t. origins_in t ≡ origins_of_actions (features_view session.now.features) (written.grammar_view grammar) session.now.macro_recursion_limit) }
+    ensures origins { IfOk result (λ t. origins_in t ≡ origins_under session.now grammar) }
     // Trees may begin at the enabled written rules that are no macros.
-    ensures roots { IfOk result (λ t. AreRoots (features_view session.now.features) (written.grammar_view grammar) (is_root t)) }
+    ensures roots { IfOk result (λ t. AreRootsUnder session.now grammar (is_root t)) }
     // From there both translations reject what is no tree, answer the corresponding tree, and undo each other.
-    ensures calls { IfOk result (λ t. CallsFit (written_meaning (features_view session.now.features) (written.grammar_view grammar))
-        (written_name (features_view session.now.features) (written.grammar_view grammar)) (grammar_of t) (is_root t)) }
+    ensures calls { IfOk result (λ t. CallsFitUnder session.now grammar (grammar_of t) (is_root t)) }
     // `explain_at` reads a derivation tree of any nonterminal as the corresponding tree of the symbol that is meant there.
-    ensures anywhere { IfOk result (λ t. FitsAnywhere (features_view session.now.features) (written.grammar_view grammar) session.now.macro_recursion_limit (grammar_of t)) }
+    ensures anywhere { IfOk result (λ t. FitsAnywhereUnder session.now grammar (grammar_of t)) }
 {
     let plain = expand_traced(alloc, session, grammar)?;
     let Plain {
@@ -98,9 +93,9 @@ fn expand<L>(
     session: &Session<L>,
     grammar: parse_tree::Grammar,
 ) -> NormResult<parse_tree::Grammar>
-    ensures refuses { Refuses result (early_faults (features_view session.now.features) session.now.macro_recursion_limit (written.grammar_view grammar)) }
-    ensures passes { IfOk result (λ p. PassesExpansion (features_view session.now.features) (written.grammar_view grammar) session.now.macro_recursion_limit) }
-    ensures plain { IfOk result (λ p. written.grammar_view p ≡ grammar_of_plain_rules (features_view session.now.features) (written.grammar_view grammar) session.now.macro_recursion_limit) }
+    ensures refuses { Refuses result (early_faults_under session.now grammar) }
+    ensures passes { IfOk result (λ p. PassesExpansionUnder session.now grammar) }
+    ensures plain { IfOk result (λ p. grammar_view p ≡ plain_under session.now grammar) }
 {
     validate(alloc, &grammar)?;
     let enabled = remove_disabled_decls(session, grammar)?;
@@ -118,11 +113,11 @@ fn expand_traced<L>(
     session: &Session<L>,
     tree: parse_tree::Grammar,
 ) -> NormResult<Plain>
-    ensures refuses { Refuses result (early_faults (features_view session.now.features) session.now.macro_recursion_limit (written.grammar_view tree)) }
-    ensures passes { IfOk result (λ p. PassesExpansion (features_view session.now.features) (written.grammar_view tree) session.now.macro_recursion_limit) }
-    ensures plain { IfOk result (λ p. written.grammar_view p.grammar ≡ grammar_of_plain_rules (features_view session.now.features) (written.grammar_view tree) session.now.macro_recursion_limit) }
-    ensures origins { IfOk result (λ p. origin_lists p.origins.items ≡ lists_of_plain_rules (features_view session.now.features) (written.grammar_view tree) session.now.macro_recursion_limit) }
-    ensures rules { IfOk result (λ p. p.rules.keys ≡ with_rule_names [] (flat_map plain_names (enabled_grammar (features_view session.now.features) (written.grammar_view tree)).items)) }
+    ensures refuses { Refuses result (early_faults_under session.now tree) }
+    ensures passes { IfOk result (λ p. PassesExpansionUnder session.now tree) }
+    ensures plain { IfOk result (λ p. grammar_view p.grammar ≡ plain_under session.now tree) }
+    ensures origins { IfOk result (λ p. origin_lists p.origins.items ≡ plain_lists_under session.now tree) }
+    ensures rules { IfOk result (λ p. p.rules.keys ≡ root_names_under session.now tree) }
 {
     validate(alloc, &tree)?;
     let (enabled, kept) = remove_disabled_traced(alloc, session, tree)?;
@@ -143,9 +138,11 @@ fn check_and_lower<L: Lexer>(
     session: &Session<L>,
     plain: parse_tree::Grammar,
 ) -> NormResult<repr::Grammar>
-    requires plain { IsPlain (features_view session.now.features) (written.grammar_view plain) }
-    ensures refuses { RefusesAmong (StandsAtLexer (L.relations session.now.lexer) (written.grammar_view plain)) result (plain_findings (written.grammar_view plain)) }
-    ensures lowered { IfOk result (λ l. IsCheckedLowering (L.relations session.now.lexer) (features_view session.now.features) (written.grammar_view plain) (lowered.lowered_grammar_view l)) }
+    requires plain { IsPlain (features_view session.now.features) (grammar_view plain) }
+    ensures refuses { RefusesAmong (StandsAtLexer (L.relations session.now.lexer) (grammar_view plain)) result
+        (plain_findings (grammar_view plain)) }
+    ensures lowered { IfOk result (λ l. IsCheckedLowering (L.relations session.now.lexer) (features_view session.now.features)
+        (grammar_view plain) (lowered_grammar_view l)) }
 {
     let checked = token_check::validate(alloc, &session.lexer, plain)?;
     // From here on each terminal that is used has an entry or a conversion (law `plain_grammars_are_typed`).
@@ -158,10 +155,11 @@ fn type_and_lower<L>(
     session: &Session<L>,
     plain: parse_tree::Grammar,
 ) -> NormResult<repr::Grammar>
-    requires expanded { IsExpanded (written.grammar_view plain) }
-    requires typed { IsTypedByInference (features_view session.now.features) (written.grammar_view plain) }
-    ensures refuses { Refuses result (late_faults (written.grammar_view plain)) }
-    ensures lowered { IfOk result (λ l. IsTypedLowering (features_view session.now.features) (written.grammar_view plain) (lowered.lowered_grammar_view l)) }
+    requires expanded { IsExpanded (grammar_view plain) }
+    requires typed { IsTypedByInference (features_view session.now.features) (grammar_view plain) }
+    ensures refuses { Refuses result (late_faults (grammar_view plain)) }
+    ensures lowered { IfOk result (λ l. IsTypedLowering (features_view session.now.features)
+        (grammar_view plain) (lowered_grammar_view l)) }
 {
     let (types, names) = infer_types_numbered(alloc, &plain)?;
     // From here on each nonterminal has one type (`infer_types_numbered.inferred`; law `inferred_types_are_total`).

@@ -1,7 +1,8 @@
 //! What is proved of the definitions. Each function here is a law: it does nothing, and its contract is a theorem, whose
 //! statement is in `specs/PlainLaws.antt`.
-ghost use Rattle.lalrpop_norm.specs.PlainLaws.{PlainGrammarsAreExpanded, EnteredGrammarsAreExpanded, PlainGrammarsAreTyped, PlainConversionsAreActive};
-ghost use Rattle.lalrpop_norm.specs.PlainLaws.{InferredTypesAreTotal, StartNamesAreFree, LoweredTypesAreGrounded, LoweredGrammarsAreFaithful};
+ghost use Rattle.lalrpop_norm.specs.PlainLaws.{PlainGrammarsAreExpanded, EnteredGrammarsAreExpanded, PlainGrammarsAreTyped};
+ghost use Rattle.lalrpop_norm.specs.PlainLaws.{PlainConversionsAreActive, InferredTypesAreTotal, StartNamesAreFree};
+ghost use Rattle.lalrpop_norm.specs.PlainLaws.{LoweredTypesAreGrounded, LoweredGrammarsAreFaithful};
 
 use lalrpop_norm_lexer::lexer::Lexer;
 

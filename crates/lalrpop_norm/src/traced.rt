@@ -57,7 +57,8 @@ pub(crate) fn origins_in_order(
     items: &[GrammarItem],
     lists: Vec<Vec<Origin>>,
 ) -> Result<Vec<Origin>, NoMemory>
-    ensures { IfOk result (λ os. origins_view os.items ≡ start_origins (map item_view items.now) ++ in_one_list (origin_lists lists.items)) }
+    ensures { IfOk result (λ os. origins_view os.items
+        ≡ start_origins (map item_view items.now) ++ in_one_list (origin_lists lists.items)) }
 {
     let mut origins = origins_of_starts(alloc, items)?;
     for list in lists {

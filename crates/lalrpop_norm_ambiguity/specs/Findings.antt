@@ -68,12 +68,12 @@ abbrev pub AnswersFirst : {T : Type 0} → Result T AmbiguityError → List Pair
 AnswersFirst (Ok x) fs P = (fs ≡ []) × P x
 AnswersFirst (Err e) fs P = IsFirstFound fs e
 
--- the same of a list with any others behind it
+-- Ok if the list of findings is empty, with such a value; else the first finding, whatever other ones are behind the list
 abbrev pub AnswersBefore : {T : Type 0} → Result T AmbiguityError → List PairFinding → (T → Type 0) → Type 0
 AnswersBefore (Ok x) fs P = (fs ≡ []) × P x
 AnswersBefore (Err e) fs P = (rest : List PairFinding) → IsFirstFound (fs ++ rest) e
 
--- the same of a list with an empty one before it, and any others behind
+-- Ok if the list of findings is empty, with such a value; else the first finding, with an empty list before it and others behind
 abbrev pub AnswersBehind : {T : Type 0} → Result T AmbiguityError → List PairFinding → (T → Type 0) → Type 0
 AnswersBehind (Ok x) fs P = (fs ≡ []) × P x
 AnswersBehind (Err e) fs P = (before rest : List PairFinding) → before ≡ [] → IsFirstFound (before ++ (fs ++ rest)) e

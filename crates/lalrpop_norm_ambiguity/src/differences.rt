@@ -4,7 +4,8 @@ ghost use Rattle.lalrpop_norm_theory.specs.Same.{same_closed_terminal};
 ghost use Rattle.lalrpop_norm_theory.specs.WrittenTrees.{leaf, nothing, yield, yields};
 ghost use Rattle.lalrpop_norm_model.specs.Reading.{terminal_of};
 ghost use Rattle.lalrpop_norm_explain.specs.Trees.{written_view, written_views};
-ghost use Rattle.lalrpop_norm_ambiguity.specs.Differences.{yield_difference, tree_difference, children_difference, merged, at_child, upwards};
+ghost use Rattle.lalrpop_norm_ambiguity.specs.Differences.{yield_difference, tree_difference, children_difference};
+ghost use Rattle.lalrpop_norm_ambiguity.specs.Differences.{merged, at_child, upwards};
 
 use lalrpop_norm_explain::WrittenTree;
 use lalrpop_norm_tree_names::names::{TerminalLiteral, TerminalString};

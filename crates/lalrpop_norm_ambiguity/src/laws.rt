@@ -1,5 +1,6 @@
 //! What two trees show of a grammar. Each function is a law: it does nothing, and its contract is a theorem.
-ghost use Rattle.lalrpop_norm_ambiguity.specs.Laws.{FoundIsAmbiguous, AnswersShow, AmbiguousIsFound, AnsweredExactly, DifferencesAreAmbiguous, AmbiguousExactly};
+ghost use Rattle.lalrpop_norm_ambiguity.specs.Laws.{FoundIsAmbiguous, AnswersShow, AmbiguousIsFound, AnsweredExactly};
+ghost use Rattle.lalrpop_norm_ambiguity.specs.Laws.{DifferencesAreAmbiguous, AmbiguousExactly};
 
 /// If both translations fit a meaning and nothing is found in two derivation trees, then they are read as two different written
 /// trees with one yield, both of one rule at whose name trees may begin.

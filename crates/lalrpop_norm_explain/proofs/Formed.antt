@@ -2,13 +2,13 @@
 use Rattle.std.proofs.Common.{◌≡◌, ℕ, zero, suc, List, [], ◌∷◌, ◌++◌, map, refl, sym, ap, subst, ◌∙◌, arith}
 use Rattle.std.specs.Prelude.{Option, Some, None, slice_get}
 use Rattle.std.proofs.lemmas.List.{append-nil}
-use Rattle.lalrpop_norm_theory.specs.Symbols.{Name, ClosedSymbol, ClosedSymbols, terminal, error, reference, call, group, star, plus, question, times, wrapped, lookahead, lookbehind, no_symbols, symbol_and, replicated}
+use Rattle.lalrpop_norm_theory.specs.Symbols.{Name, ClosedSymbol, ClosedSymbols, terminal, error, reference, call, wrapped, no_symbols, symbol_and}
 use Rattle.lalrpop_norm_theory.specs.Meaning.{Meaning}
 use Rattle.lalrpop_norm_theory.specs.Clauses.{Clause, clause_and, clauses, numbered, step_clauses, symbol_of, symbols_of, clause_production}
 use Rattle.lalrpop_norm_theory.specs.LoweredTrees.{ProductionTable, Production}
 use Rattle.lalrpop_norm_theory.specs.Met.{IsKnown}
 use Rattle.lalrpop_norm_theory.specs.Tables.{AllKnown, Realizes}
-use Rattle.lalrpop_norm_explain.specs.Forms.{Form, group_form, star_form, plus_form, question_form, times_form, ahead_form, behind_form, made_productions, form_of, IsVisited, AreVisited}
+use Rattle.lalrpop_norm_explain.specs.Forms.{Form, made_productions, form_of, IsVisited, AreVisited}
 use Rattle.lalrpop_norm_explain.specs.Laws.{IsNameOf, RealizedIsFormed}
 use Rattle.lalrpop_norm_explain.proofs.Back.{visited_and}
 
@@ -26,6 +26,10 @@ pub step_no_form : (name : ClosedSymbol → Name) (n : Name) (o : Option (Option
 step_no_form name n None = refl
 step_no_form name n (Some b) = refl
 
+-- productions of a form are those of an equal one
+alike_formed : (n : Name) (ps : List Production) (x f : Form) → Some x ≡ Some f → ps ≡ made_productions n x → ps ≡ made_productions n f
+alike_formed n ps x f e made = let same : x ≡ f = cc e in made ∙ ap (made_productions n) same
+
 rule_formed : (M : Meaning) (name : ClosedSymbol → Name) (g : ClosedSymbol) (f : Form) → form_of (map (clause_production name) (clauses M g)) ≡ Some f →
     map (clause_production name) (clauses M g) ≡ made_productions (name g) f
 rule_formed M name (terminal a) f e = absurd (cc e)
@@ -38,29 +42,14 @@ rule_formed M name (call n args) f e =
     let none = no_form name n (M.call_parts n args) 0 (M.call_count n) [] refl in
     let same = append-nil (numbered n (M.call_parts n args) 0 (M.call_count n)) in
     let bad : None ≡ Some f = sym (rw same at none) ∙ e in absurd (cc bad)
-rule_formed M name (group gs) f e = let same : group_form (symbols_of name gs) ≡ f = cc in rw (← same) refl
-rule_formed M name (star x) f e = let same : star_form (name (plus x)) ≡ f = cc in rw (← same) refl
-rule_formed M name (plus x) f e = let same : plus_form (symbol_of name x) ≡ f = cc in rw (← same) refl
-rule_formed M name (question x) f e = let same : question_form (symbol_of name x) ≡ f = cc in rw (← same) refl
-rule_formed M name (times n x) f e =
-    let same : times_form (symbols_of name (replicated n x)) ≡ f = cc in rw (← same) refl
-rule_formed M name lookahead f e = let same : ahead_form ≡ f = cc in rw (← same) refl
-rule_formed M name lookbehind f e = let same : behind_form ≡ f = cc in rw (← same) refl
+rule_formed M name g f e = alike_formed (name g) _ _ f e refl
 
 pub symbol_visited : (M : Meaning) (name : ClosedSymbol → Name) (P : ProductionTable) (declared met : List ClosedSymbol) → Realizes M name P (IsKnown declared met) →
     (g : ClosedSymbol) → IsKnown declared met g → IsVisited (IsNameOf name (IsKnown declared met)) (symbol_of name g)
 symbol_visited M name P declared met R (terminal a) k = tt
 symbol_visited M name P declared met R error k = tt
 symbol_visited M name P declared met R (wrapped w g) k = symbol_visited M name P declared met R g (R.inner w g k)
-symbol_visited M name P declared met R (reference n b) k = (reference n b, tt, k, refl)
-symbol_visited M name P declared met R (call n args) k = (call n args, tt, k, refl)
-symbol_visited M name P declared met R (group gs) k = (group gs, tt, k, refl)
-symbol_visited M name P declared met R (star x) k = (star x, tt, k, refl)
-symbol_visited M name P declared met R (plus x) k = (plus x, tt, k, refl)
-symbol_visited M name P declared met R (question x) k = (question x, tt, k, refl)
-symbol_visited M name P declared met R (times n x) k = (times n x, tt, k, refl)
-symbol_visited M name P declared met R lookahead k = (lookahead, tt, k, refl)
-symbol_visited M name P declared met R lookbehind k = (lookbehind, tt, k, refl)
+symbol_visited M name P declared met R g k = (g, tt, k, refl)
 
 parts_visited : (M : Meaning) (name : ClosedSymbol → Name) (P : ProductionTable) (declared met : List ClosedSymbol) → Realizes M name P (IsKnown declared met) →
     (gs : ClosedSymbols) → AllKnown (IsKnown declared met) gs → AreVisited (IsNameOf name (IsKnown declared met)) (symbols_of name gs)

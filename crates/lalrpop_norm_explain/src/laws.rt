@@ -1,5 +1,6 @@
 //! What no fault means. Each function is a law: it does nothing, and its contract is a theorem.
-ghost use Rattle.lalrpop_norm_explain.specs.Laws.{FaultlessIsRooted, FaultlessIsPaired, FaultlessComesBack, TreesHaveNoFault, ShapedAreTrees, FaultsAreWritten, WaysAreInverse, RealizedIsFormed, RealizedCallsFit};
+ghost use Rattle.lalrpop_norm_explain.specs.Laws.{FaultlessIsRooted, FaultlessIsPaired, FaultlessComesBack, TreesHaveNoFault};
+ghost use Rattle.lalrpop_norm_explain.specs.Laws.{ShapedAreTrees, FaultsAreWritten, WaysAreInverse, RealizedIsFormed, RealizedCallsFit};
 ghost use Rattle.lalrpop_norm_explain.specs.Anywhere.{FaultlessIsDerived, FaultlessIsReadAnywhere, RealizedCallFitsAnywhere};
 
 /// A lowered tree has no fault exactly where it is a derivation tree of a name at which trees may begin.

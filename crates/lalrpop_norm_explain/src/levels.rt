@@ -3,7 +3,8 @@ ghost use Rattle.std.specs.Prelude.{◌≡◌, IfOk, option_map};
 ghost use Rattle.lalrpop_norm_origins.specs.Origins.{origin_view};
 ghost use Rattle.lalrpop_norm_explain.specs.Derivations.{symbols_view};
 ghost use Rattle.lalrpop_norm_explain.specs.TracedGrammars.{grammar_of};
-ghost use Rattle.lalrpop_norm_explain.specs.Plans.{is_written, is_step, own_plan, own_view, first_step, step_view, lower_of, node_plan, way_view, most_steps, plan_under};
+ghost use Rattle.lalrpop_norm_explain.specs.Plans.{is_written, is_step, own_plan, own_view, first_step, step_view};
+ghost use Rattle.lalrpop_norm_explain.specs.Plans.{lower_of, node_plan, way_view, most_steps, plan_under};
 
 use crate::traced::Traced;
 use crate::trees::name_again;

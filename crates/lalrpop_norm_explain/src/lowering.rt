@@ -9,7 +9,9 @@ ghost use Rattle.lalrpop_norm_model.specs.Reading.{terminal_of};
 ghost use Rattle.lalrpop_norm_explain.specs.Derivations.{tree_symbol, symbols_view};
 ghost use Rattle.lalrpop_norm_explain.specs.TracedGrammars.{grammar_of, is_root};
 ghost use Rattle.lalrpop_norm_explain.specs.Plans.{each, planned_tree, way_view, most_steps};
-ghost use Rattle.lalrpop_norm_explain.specs.TreeLowering.{begun_by, leaf_of, one_more, plus_faults, plus_lowered, fitting_faults, lower_faults, lowered_root, lowered_by, each_lowered, shape_faults, shapes_faults};
+ghost use Rattle.lalrpop_norm_explain.specs.TreeLowering.{begun_by, leaf_of, one_more, plus_faults, plus_lowered, fitting_faults};
+ghost use Rattle.lalrpop_norm_explain.specs.TreeLowering.{lower_faults, lowered_root, lowered_by, each_lowered};
+ghost use Rattle.lalrpop_norm_explain.specs.TreeLowering.{shape_faults, shapes_faults};
 ghost use Rattle.lalrpop_norm_explain.specs.Trees.{lowered_view, lowered_views, written_view, written_views};
 
 use crate::errors::{ExplainError, ExplainFault};
@@ -143,8 +145,10 @@ fn lower_list(
     name: &NonterminalString,
     trees: &[WrittenTree],
 ) -> Result<LoweredTree, ExplainError>
-    ensures { FindsUp result (shape_faults (grammar_of traced.now) most_steps (list (written_views trees.now)) (nonterminal_symbol name.now.0))
-        (λ u. lowered_view u ≡ lowered_by (grammar_of traced.now) most_steps (list (written_views trees.now)) (nonterminal_symbol name.now.0)) }
+    ensures { FindsUp result
+        (shape_faults (grammar_of traced.now) most_steps (list (written_views trees.now)) (nonterminal_symbol name.now.0))
+        (λ u. lowered_view u
+        ≡ lowered_by (grammar_of traced.now) most_steps (list (written_views trees.now)) (nonterminal_symbol name.now.0)) }
 {
     match form_named(traced, name) {
         Some(Form::Group(symbols)) => {
@@ -210,8 +214,12 @@ fn lower_node(
     alternative: usize,
     children: &[WrittenTree],
 ) -> Result<LoweredTree, ExplainError>
-    ensures { FindsUp result (shape_faults (grammar_of traced.now) most_steps (node rule.now.0 alternative (written_views children.now)) (nonterminal_symbol name.now.0))
-        (λ u. lowered_view u ≡ lowered_by (grammar_of traced.now) most_steps (node rule.now.0 alternative (written_views children.now)) (nonterminal_symbol name.now.0)) }
+    ensures { FindsUp result
+        (shape_faults (grammar_of traced.now) most_steps
+        (node rule.now.0 alternative (written_views children.now)) (nonterminal_symbol name.now.0))
+        (λ u. lowered_view u
+        ≡ lowered_by (grammar_of traced.now) most_steps
+        (node rule.now.0 alternative (written_views children.now)) (nonterminal_symbol name.now.0)) }
 {
     match way_to(alloc, traced, name, rule, alternative)? {
         None => Err(refused(alloc, ExplainFault::Shape)),
@@ -231,7 +239,8 @@ fn lower_fitting(
     trees: &[WrittenTree],
 ) -> Result<Vec<LoweredTree>, ExplainError>
     ensures { FindsUp result (fitting_faults (grammar_of traced.now) (written_views trees.now) (symbols_view symbols.now))
-        (λ us. lowered_views us.items ≡ each_lowered (grammar_of traced.now) most_steps (written_views trees.now) (symbols_view symbols.now)) }
+        (λ us. lowered_views us.items
+        ≡ each_lowered (grammar_of traced.now) most_steps (written_views trees.now) (symbols_view symbols.now)) }
 {
     if trees.len() != symbols.len() {
         return Err(refused(alloc, ExplainFault::Shape));
@@ -249,7 +258,8 @@ fn lower_all(
 ) -> Result<Vec<LoweredTree>, ExplainError>
     requires { length trees.now ≡ length symbols.now }
     ensures { FindsUp result (shapes_faults (grammar_of traced.now) most_steps (written_views trees.now) (symbols_view symbols.now) 0)
-        (λ us. lowered_views us.items ≡ each_lowered (grammar_of traced.now) most_steps (written_views trees.now) (symbols_view symbols.now)) }
+        (λ us. lowered_views us.items
+        ≡ each_lowered (grammar_of traced.now) most_steps (written_views trees.now) (symbols_view symbols.now)) }
 {
     let mut lowered = Vec::new(alloc);
     for (place, tree) in trees.iter().enumerate() {
@@ -267,8 +277,10 @@ fn lower_each(
     symbol: &Symbol,
     trees: &[WrittenTree],
 ) -> Result<Vec<LoweredTree>, ExplainError>
-    ensures { FindsUp result (shapes_faults (grammar_of traced.now) most_steps (written_views trees.now) (each (tree_symbol symbol.now) (written_views trees.now)) 0)
-        (λ us. lowered_views us.items ≡ each_lowered (grammar_of traced.now) most_steps (written_views trees.now) (each (tree_symbol symbol.now) (written_views trees.now))) }
+    ensures { FindsUp result (shapes_faults (grammar_of traced.now) most_steps
+        (written_views trees.now) (each (tree_symbol symbol.now) (written_views trees.now)) 0)
+        (λ us. lowered_views us.items ≡ each_lowered (grammar_of traced.now) most_steps
+        (written_views trees.now) (each (tree_symbol symbol.now) (written_views trees.now))) }
 {
     let mut lowered = Vec::new(alloc);
     for (place, tree) in trees.iter().enumerate() {
@@ -287,7 +299,8 @@ fn lower_child(
     tree: &WrittenTree,
     place: usize,
 ) -> Result<LoweredTree, ExplainError>
-    ensures { FindsUp result (raised place (shape_faults (grammar_of traced.now) most_steps (written_view tree.now) (tree_symbol symbol.now)))
+    ensures { FindsUp result
+        (raised place (shape_faults (grammar_of traced.now) most_steps (written_view tree.now) (tree_symbol symbol.now)))
         (λ u. lowered_view u ≡ lowered_by (grammar_of traced.now) most_steps (written_view tree.now) (tree_symbol symbol.now)) }
 {
     match lower_at(alloc, traced, symbol, tree) {

@@ -4,7 +4,8 @@ ghost use Rattle.lalrpop_norm_theory.specs.Symbols.{Name};
 ghost use Rattle.lalrpop_norm_theory.specs.LoweredTrees.{plus_more};
 ghost use Rattle.lalrpop_norm_theory.specs.Same.{same_closed_terminal};
 ghost use Rattle.lalrpop_norm_theory.specs.Translations.{first_tree, elements, made_by, written_tree, written_each};
-ghost use Rattle.lalrpop_norm_explain.specs.TreeFaults.{Finds, FindsUp, IsFoundUp, is_of, is_begun, has_productions, child_faults, tree_faults, children_faults, explain_faults, Reads};
+ghost use Rattle.lalrpop_norm_explain.specs.TreeFaults.{Finds, FindsUp, IsFoundUp, is_of, is_begun, has_productions, child_faults};
+ghost use Rattle.lalrpop_norm_explain.specs.TreeFaults.{tree_faults, children_faults, explain_faults, Reads};
 ghost use Rattle.lalrpop_norm_model.specs.Reading.{terminal_of};
 ghost use Rattle.lalrpop_norm_origins.specs.Origins.{origin_view};
 ghost use Rattle.lalrpop_norm_explain.specs.Derivations.{tree_symbol, symbols_view};
@@ -31,12 +32,13 @@ pub fn explain(
     traced: &Traced,
     tree: &LoweredTree,
 ) -> Result<WrittenTree, ExplainError>
-    ensures { Finds result (explain_faults (is_root traced.now) (grammar_of traced.now) (lowered_view tree.now)) (λ t. Reads (grammar_of traced.now) (lowered_view tree.now) (written_view t)) }
+    ensures { Finds result (explain_faults (is_root traced.now) (grammar_of traced.now) (lowered_view tree.now))
+        (λ t. Reads (grammar_of traced.now) (lowered_view tree.now) (written_view t)) }
 {
     explain_begun(alloc, traced, tree, begins(traced, tree))
 }
 
-/// The same as [`explain`], of a derivation tree that begins at any nonterminal of the lowered grammar: a level, a repeat, a
+/// Reads, as [`explain`] does, a derivation tree that begins at any nonterminal of the lowered grammar: a level, a repeat, a
 /// group, a location symbol, a call of a macro, a start symbol.
 ///
 /// The first fault is reported, as by `explain`; X1 says that the root is a leaf, or that its nonterminal has no production.
@@ -45,7 +47,8 @@ pub fn explain_at(
     traced: &Traced,
     tree: &LoweredTree,
 ) -> Result<WrittenTree, ExplainError>
-    ensures { Finds result (explain_faults (has_productions (grammar_of traced.now)) (grammar_of traced.now) (lowered_view tree.now)) (λ t. Reads (grammar_of traced.now) (lowered_view tree.now) (written_view t)) }
+    ensures { Finds result (explain_faults (has_productions (grammar_of traced.now)) (grammar_of traced.now) (lowered_view tree.now))
+        (λ t. Reads (grammar_of traced.now) (lowered_view tree.now) (written_view t)) }
 {
     explain_begun(alloc, traced, tree, begins_anywhere(traced, tree))
 }
@@ -57,7 +60,9 @@ fn explain_begun(
     tree: &LoweredTree,
     begun: bool,
 ) -> Result<WrittenTree, ExplainError>
-    ensures { (roots : Name → Bool) → begun ≡ is_begun roots (lowered_view tree.now) → Finds result (explain_faults roots (grammar_of traced.now) (lowered_view tree.now)) (λ t. Reads (grammar_of traced.now) (lowered_view tree.now) (written_view t)) }
+    ensures { (roots : Name → Bool) → begun ≡ is_begun roots (lowered_view tree.now) →
+        Finds result (explain_faults roots (grammar_of traced.now) (lowered_view tree.now))
+        (λ t. Reads (grammar_of traced.now) (lowered_view tree.now) (written_view t)) }
 {
     if !begun {
         return Err(refused(alloc, ExplainFault::Root));
@@ -105,7 +110,8 @@ fn explain_node(
     traced: &Traced,
     tree: &LoweredTree,
 ) -> Result<WrittenTree, ExplainError>
-    ensures { FindsUp result (tree_faults (grammar_of traced.now) (lowered_view tree.now)) (λ t. written_view t ≡ written_tree (grammar_of traced.now) (lowered_view tree.now)) }
+    ensures { FindsUp result (tree_faults (grammar_of traced.now) (lowered_view tree.now))
+        (λ t. written_view t ≡ written_tree (grammar_of traced.now) (lowered_view tree.now)) }
 {
     match tree {
         LoweredTree::Leaf(text) => Ok(WrittenTree::Leaf(terminal_again(text))),
@@ -135,7 +141,8 @@ fn explain_children(
     children: &[LoweredTree],
 ) -> Result<Vec<WrittenTree>, ExplainError>
     requires { length children.now ≡ length symbols.now }
-    ensures { FindsUp result (children_faults (grammar_of traced.now) (lowered_views children.now) (symbols_view symbols.now) 0) (λ ts. written_views ts.items ≡ written_each (grammar_of traced.now) (lowered_views children.now)) }
+    ensures { FindsUp result (children_faults (grammar_of traced.now) (lowered_views children.now) (symbols_view symbols.now) 0)
+        (λ ts. written_views ts.items ≡ written_each (grammar_of traced.now) (lowered_views children.now)) }
 {
     let mut written = Vec::new(alloc);
     for (place, child) in children.iter().enumerate() {
@@ -154,7 +161,9 @@ fn explain_child(
     child: &LoweredTree,
     place: usize,
 ) -> Result<WrittenTree, ExplainError>
-    ensures { FindsUp result (child_faults place (is_of (tree_symbol symbol.now) (lowered_view child.now)) (tree_faults (grammar_of traced.now) (lowered_view child.now))) (λ t. written_view t ≡ written_tree (grammar_of traced.now) (lowered_view child.now)) }
+    ensures { FindsUp result (child_faults place (is_of (tree_symbol symbol.now) (lowered_view child.now))
+        (tree_faults (grammar_of traced.now) (lowered_view child.now)))
+        (λ t. written_view t ≡ written_tree (grammar_of traced.now) (lowered_view child.now)) }
 {
     if !is_of(symbol, child) {
         return Err(refused(alloc, ExplainFault::Child).raised(place));

@@ -35,14 +35,14 @@ pub enum WrittenTree {
     },
 }
 
-/// The same name once more, without an allocation.
+/// A copy of a name, without an allocation.
 pub(crate) fn name_again(name: &NonterminalString) -> NonterminalString
     ensures { result ≡ name.now }
 {
     NonterminalString(name.0.again())
 }
 
-/// The same terminal once more, without an allocation.
+/// A copy of a terminal, without an allocation.
 pub(crate) fn terminal_again(terminal: &TerminalString) -> TerminalString
     ensures { result ≡ terminal.now }
 {

@@ -55,7 +55,8 @@ impl Traced {
 
     /// The origin of the production of that index of the nonterminal, if there is one.
     pub fn origin(&self, name: &NonterminalString, place: usize) -> Option<&Origin>
-        ensures { option_map (λ o. origin_view o.now) result ≡ option_map (λ q. q.origin) (slice_get (grammar_of self.now name.now.0) place) }
+        ensures { option_map (λ o. origin_view o.now) result
+            ≡ option_map (λ q. q.origin) (slice_get (grammar_of self.now name.now.0) place) }
     {
         let (_, origin) = self.production(name, place)?;
         Some(origin)
