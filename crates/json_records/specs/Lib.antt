@@ -3,3 +3,4 @@ pub mod Reading
 pub mod Fields
 pub mod Variants
 pub mod Rows
+pub mod Readers

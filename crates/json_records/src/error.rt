@@ -1,8 +1,9 @@
 //! Why nothing is read, and the token that comes next.
-ghost use Rattle.std.specs.Prelude.{◌≡◌, ℕ, ◌<◌, [], ◌∷◌, length, Some, None, MatchOption, IfOk, IsErr, OnOk};
+ghost use Rattle.std.specs.Prelude.{◌≡◌, ℕ, [], ◌∷◌, Some, None, MatchOption, IfOk, IsErr};
 ghost use Rattle.json.specs.Json.{read_key, after_end_array};
 ghost use Rattle.json.specs.Reads.{token_of};
 ghost use Rattle.json_records.specs.Reading.{NoMembers, NoItems};
+ghost use Rattle.json_records.specs.Readers.{LeavesFewer};
 
 use json::{Reader, Token};
 use std::alloc::{AllocError, AllocFailed};
@@ -53,7 +54,7 @@ pub fn next_member<'a>(reader: &mut Reader<'a>) -> Result<Option<(&'a str, Token
     ensures ok { IfOk result (λ m. MatchOption m (read_key reader.old ≡ Some (None, reader.new))
         (λ p. read_key reader.old ≡ Some (Some p.0.now, token_of p.1 ∷ reader.new))) }
     ensures err { IsErr result → (n : ℕ) → NoMembers n reader.old }
-    ensures shorter { OnOk result (length reader.new < length reader.old) }
+    ensures shorter { LeavesFewer result reader.old reader.new }
 {
     match reader.next_key() {
         Ok(Some(key)) => Ok(Some((key, next_token(reader)?))),
@@ -68,7 +69,7 @@ pub fn next_item<'a>(reader: &mut Reader<'a>) -> Result<Option<Token<'a>>, ReadE
     ensures ok { IfOk result (λ i. MatchOption i (after_end_array reader.old ≡ Some reader.new)
         (λ t. (after_end_array reader.old ≡ None) × (reader.old ≡ token_of t ∷ reader.new))) }
     ensures err { IsErr result → (n : ℕ) → NoItems n reader.old }
-    ensures shorter { OnOk result (length reader.new < length reader.old) }
+    ensures shorter { LeavesFewer result reader.old reader.new }
 {
     match next_token(reader)? {
         Token::EndArray => Ok(None),

@@ -1,7 +1,7 @@
 //! Lists, and values that may be absent.
-ghost use Rattle.std.specs.Prelude.{◌≡◌, ◌≤◌, [], ◌∷◌, ◌++◌, map, length, None, MatchOption, IfOk, OnOk, IsErrOf};
-ghost use Rattle.json.specs.Reads.{token_of};
-ghost use Rattle.json_records.specs.Reading.{data_of, IsRead, is_list, list_form, may_be, maybe_form};
+ghost use Rattle.std.specs.Prelude.{◌≡◌, [], ◌∷◌, ◌++◌, IfOk, OnOk};
+ghost use Rattle.json_records.specs.Reading.{may_be, maybe_form};
+ghost use Rattle.json_records.specs.Readers.{ReadsForm, ReadsList, NotJsonOnlyIfNoData, IsNeverNotJson, LeavesNoMore};
 
 use crate::error::{ReadError, next_item};
 use crate::scalars::open_array;
@@ -29,15 +29,15 @@ pub trait Reads<T> {
         reader: &mut Reader<'a>,
         depth: usize,
     ) -> Result<Option<T>, ReadError>
-        ensures ok { IfOk result (λ o. IsRead form can depth (token_of first.entry ∷ reader.old) reader.new o) }
-        ensures err { IsErrOf result ReadError.NotJson → data_of depth (token_of first.entry ∷ reader.old) ≡ None }
-        ensures shorter { OnOk result (length reader.new ≤ length reader.old) };
+        ensures ok { ReadsForm result form can depth first.entry reader.old reader.new }
+        ensures err { NotJsonOnlyIfNoData result depth first.entry reader.old }
+        ensures shorter { LeavesNoMore result reader.old reader.new };
 }
 
 /// One more item, for which the list takes just the room where it is the first: most lists are short.
 pub fn push<T: Drop>(list: &mut Vec<T>, item: T) -> Result<(), ReadError>
     ensures ok { OnOk result (list.new.items ≡ list.old.items ++ item ∷ []) }
-    ensures err { IsErrOf result ReadError.NotJson → ⊥ }
+    ensures err { IsNeverNotJson result }
 {
     push_onto(list, item, 1)
 }
@@ -45,7 +45,7 @@ pub fn push<T: Drop>(list: &mut Vec<T>, item: T) -> Result<(), ReadError>
 /// One more item; where it is the first, the list takes room for so many.
 pub(crate) fn push_onto<T: Drop>(list: &mut Vec<T>, item: T, room: usize) -> Result<(), ReadError>
     ensures ok { OnOk result (list.new.items ≡ list.old.items ++ item ∷ []) }
-    ensures err { IsErrOf result ReadError.NotJson → ⊥ }
+    ensures err { IsNeverNotJson result }
 {
     if list.is_empty() {
         list.reserve_exact(room)?;
@@ -57,7 +57,7 @@ pub(crate) fn push_onto<T: Drop>(list: &mut Vec<T>, item: T, room: usize) -> Res
 /// The list without room to spare.
 pub fn fitted<T: Drop>(mut list: Vec<T>) -> Result<Vec<T>, ReadError>
     ensures ok { IfOk result (λ xs. xs.items ≡ list.items) }
-    ensures err { IsErrOf result ReadError.NotJson → ⊥ }
+    ensures err { IsNeverNotJson result }
 {
     if list.capacity() > list.len() {
         list.shrink_to_fit();
@@ -75,9 +75,9 @@ pub fn read_list<'a, T: Drop, K: Reads<T>>(
     reader: &mut Reader<'a>,
     depth: usize,
 ) -> Result<Option<Vec<T>>, ReadError>
-    ensures ok { IfOk result (λ o. IsRead (λ xs. list_form (map K.Reads.form xs.items)) (is_list K.Reads.can) depth (token_of first.entry ∷ reader.old) reader.new o) }
-    ensures err { IsErrOf result ReadError.NotJson → data_of depth (token_of first.entry ∷ reader.old) ≡ None }
-    ensures shorter { OnOk result (length reader.new ≤ length reader.old) }
+    ensures ok { ReadsList result K.Reads.form K.Reads.can depth first.entry reader.old reader.new }
+    ensures err { NotJsonOnlyIfNoData result depth first.entry reader.old }
+    ensures shorter { LeavesNoMore result reader.old reader.new }
 {
     let Some(depth) = open_array(first, reader, depth)? else {
         return Ok(None);
@@ -104,9 +104,9 @@ pub fn read_maybe<'a, T, K: Reads<T>>(
     reader: &mut Reader<'a>,
     depth: usize,
 ) -> Result<Option<Option<T>>, ReadError>
-    ensures ok { IfOk result (λ o. IsRead (maybe_form K.Reads.form) (may_be K.Reads.can) depth (token_of first.entry ∷ reader.old) reader.new o) }
-    ensures err { IsErrOf result ReadError.NotJson → data_of depth (token_of first.entry ∷ reader.old) ≡ None }
-    ensures shorter { OnOk result (length reader.new ≤ length reader.old) }
+    ensures ok { ReadsForm result (maybe_form K.Reads.form) (may_be K.Reads.can) depth first.entry reader.old reader.new }
+    ensures err { NotJsonOnlyIfNoData result depth first.entry reader.old }
+    ensures shorter { LeavesNoMore result reader.old reader.new }
 {
     if let Token::Null = first {
         return Ok(Some(None));

@@ -1,8 +1,9 @@
 //! Values that are passed over.
-ghost use Rattle.std.specs.Prelude.{◌≡◌, ◌≤◌, ◌<◌, ◌∷◌, length, Some, None, IsErrOf, OnOk};
+ghost use Rattle.std.specs.Prelude.{◌≡◌, ◌∷◌, Some, OnOk};
 ghost use Rattle.json.specs.Reads.{token_of};
 ghost use Rattle.serde_json.specs.Data.{Data, Items, Members};
 ghost use Rattle.json_records.specs.Reading.{data_of, items_of, members_of};
+ghost use Rattle.json_records.specs.Readers.{NotJsonOnlyIfNone, NotJsonOnlyIfNoData, LeavesNoMore};
 
 use crate::error::{ReadError, next_item, next_member};
 use crate::numbers::number;
@@ -12,8 +13,8 @@ use json::{Reader, Token};
 #[cycle(pass)]
 pub fn pass<'a>(first: Token<'a>, reader: &mut Reader<'a>, depth: usize) -> Result<(), ReadError>
     ensures ok { OnOk result ((d : Data) × (data_of depth (token_of first.entry ∷ reader.old) ≡ Some (d, reader.new))) }
-    ensures err { IsErrOf result ReadError.NotJson → data_of depth (token_of first.entry ∷ reader.old) ≡ None }
-    ensures shorter { OnOk result (length reader.new ≤ length reader.old) }
+    ensures err { NotJsonOnlyIfNoData result depth first.entry reader.old }
+    ensures shorter { LeavesNoMore result reader.old reader.new }
 {
     match first {
         Token::String(_) | Token::Bool(_) | Token::Null => Ok(()),
@@ -41,8 +42,8 @@ pub fn pass<'a>(first: Token<'a>, reader: &mut Reader<'a>, depth: usize) -> Resu
 #[cycle(pass)]
 pub(crate) fn pass_items(reader: &mut Reader<'_>, depth: usize) -> Result<(), ReadError>
     ensures ok { OnOk result ((ds : Items) × (items_of depth reader.old ≡ Some (ds, reader.new))) }
-    ensures err { IsErrOf result ReadError.NotJson → items_of depth reader.old ≡ None }
-    ensures shorter { OnOk result (length reader.new ≤ length reader.old) }
+    ensures err { NotJsonOnlyIfNone result (items_of depth reader.old) }
+    ensures shorter { LeavesNoMore result reader.old reader.new }
 {
     while let Some(first) = next_item(reader)? {
         pass(first, reader, depth)?;
@@ -54,8 +55,8 @@ pub(crate) fn pass_items(reader: &mut Reader<'_>, depth: usize) -> Result<(), Re
 #[cycle(pass)]
 fn pass_members(reader: &mut Reader<'_>, depth: usize) -> Result<(), ReadError>
     ensures ok { OnOk result ((ms : Members) × (members_of depth reader.old ≡ Some (ms, reader.new))) }
-    ensures err { IsErrOf result ReadError.NotJson → members_of depth reader.old ≡ None }
-    ensures shorter { OnOk result (length reader.new ≤ length reader.old) }
+    ensures err { NotJsonOnlyIfNone result (members_of depth reader.old) }
+    ensures shorter { LeavesNoMore result reader.old reader.new }
 {
     while let Some((_, first)) = next_member(reader)? {
         pass(first, reader, depth)?;

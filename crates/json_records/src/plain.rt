@@ -1,7 +1,4 @@
 //! Truth values, numbers, texts, lists and options.
-ghost use Rattle.std.specs.Prelude.{◌≡◌, ◌≤◌, ◌∷◌, length, IfOk, OnOk, IsErrOf};
-ghost use Rattle.json.specs.Reads.{token_of};
-ghost use Rattle.json_records.specs.Reading.{data_of, IsRead};
 
 use crate::error::ReadError;
 use crate::lists::{Reads, read_list, read_maybe};

@@ -1,10 +1,11 @@
 //! Records: objects whose keys are known, read into a table of their fields.
-ghost use Rattle.std.specs.Prelude.{◌≡◌, ◌≤◌, ◌∷◌, List, Option, is_some, map, length, Some, None, true, false, MatchOption, IfOk, OnOk, IsErrOf};
+ghost use Rattle.std.specs.Prelude.{◌≡◌, ◌∷◌, List, Option, is_some, map, length, Some, None, true, false, MatchOption, IfOk};
 ghost use Rattle.json.specs.Reads.{token_of};
 ghost use Rattle.serde_json.specs.Data.{Data, Members, object};
 ghost use Rattle.json_records.specs.Fields.{AreHeld, Puts, is_known, is_record, members_under};
 ghost use Rattle.json_records.specs.Order.{rise_above};
 ghost use Rattle.json_records.specs.Reading.{data_of};
+ghost use Rattle.json_records.specs.Readers.{NotJsonOnlyIfNoData, LeavesNoMore};
 
 use crate::error::{ReadError, next_member};
 use crate::lists::Reads;
@@ -51,8 +52,8 @@ pub trait Fields<K>: Sized {
         ensures taken { result ≡ Ok true → (d : Data) × (data_of depth (token_of member.entry.1 ∷ reader.old) ≡ Some (d, reader.new))
             × Puts (map (λ s. s.now) names.now) tests member.entry.0.now d (held self.old) (held self.new) }
         ensures other { result ≡ Ok false → (is_known member.entry.0.now (map (λ s. s.now) names.now) ≡ false) × (reader.new ≡ reader.old) }
-        ensures err { IsErrOf result ReadError.NotJson → data_of depth (token_of member.entry.1 ∷ reader.old) ≡ None }
-        ensures shorter { OnOk result (length reader.new ≤ length reader.old) };
+        ensures err { NotJsonOnlyIfNoData result depth member.entry.1 reader.old }
+        ensures shorter { LeavesNoMore result reader.old reader.new };
 
     /// The values, where each field holds one.
     fn values(self) -> Option<Self::Values>
@@ -161,8 +162,8 @@ pub fn read_record<'a, K, F: Fields<K> + Drop>(
     ensures ok { IfOk result (λ o. (d : Data) × (data_of depth (token_of first.entry ∷ reader.old) ≡ Some (d, reader.new))
         × MatchOption o (is_record (map (λ s. s.now) names.now) F.Fields.tests d ≡ false)
         (λ v. d ≡ object (members_under (map (λ s. s.now) names.now) (map (λ e. Some e) (F.Fields.means v))))) }
-    ensures err { IsErrOf result ReadError.NotJson → data_of depth (token_of first.entry ∷ reader.old) ≡ None }
-    ensures shorter { OnOk result (length reader.new ≤ length reader.old) }
+    ensures err { NotJsonOnlyIfNoData result depth first.entry reader.old }
+    ensures shorter { LeavesNoMore result reader.old reader.new }
 {
     match read_fields::<K, F>(alloc, names, first, reader, depth)? {
         Some(fields) => Ok(fields.values()),
@@ -184,8 +185,8 @@ fn read_fields<'a, K, F: Fields<K> + Drop>(
     ensures ok { IfOk result (λ o. (d : Data) × (data_of depth (token_of first.entry ∷ reader.old) ≡ Some (d, reader.new))
         × MatchOption o (is_record (map (λ s. s.now) names.now) F.Fields.tests d ≡ false)
         (λ f. (ms : Members) × (d ≡ object ms) × AreHeld (map (λ s. s.now) names.now) F.Fields.tests (F.Fields.held f) ms)) }
-    ensures err { IsErrOf result ReadError.NotJson → data_of depth (token_of first.entry ∷ reader.old) ≡ None }
-    ensures shorter { OnOk result (length reader.new ≤ length reader.old) }
+    ensures err { NotJsonOnlyIfNoData result depth first.entry reader.old }
+    ensures shorter { LeavesNoMore result reader.old reader.new }
 {
     let Some(depth) = open_object(first, reader, depth)? else {
         return Ok(None);

@@ -1,9 +1,8 @@
 //! Texts, truth values and numbers, and what opens an array or an object. Where the value is another, it is passed over.
-ghost use Rattle.std.specs.Prelude.{◌≡◌, ◌≤◌, suc, ◌∷◌, length, Some, None, false, MatchOption, IfOk, IsErrOf, OnOk};
-ghost use Rattle.json.specs.Reads.{token_of};
 ghost use Rattle.json.specs.Token.{begin_array, begin_object};
-ghost use Rattle.serde_json.specs.Data.{Data, string, boolean, number as numeral, unsigned};
-ghost use Rattle.json_records.specs.Reading.{data_of, IsRead, is_text, is_truth, is_natural, is_short, is_object, is_array};
+ghost use Rattle.serde_json.specs.Data.{string, boolean, number as numeral, unsigned};
+ghost use Rattle.json_records.specs.Reading.{is_text, is_truth, is_natural, is_short, is_object, is_array};
+ghost use Rattle.json_records.specs.Readers.{ReadsForm, Opens, NotJsonOnlyIfNoData, LeavesNoMore};
 
 use crate::error::ReadError;
 use crate::numbers::number;
@@ -16,9 +15,9 @@ pub fn text<'a>(
     reader: &mut Reader<'a>,
     depth: usize,
 ) -> Result<Option<&'a str>, ReadError>
-    ensures ok { IfOk result (λ o. IsRead (λ s. string s.now) is_text depth (token_of first.entry ∷ reader.old) reader.new o) }
-    ensures err { IsErrOf result ReadError.NotJson → data_of depth (token_of first.entry ∷ reader.old) ≡ None }
-    ensures shorter { OnOk result (length reader.new ≤ length reader.old) }
+    ensures ok { ReadsForm result (λ s. string s.now) is_text depth first.entry reader.old reader.new }
+    ensures err { NotJsonOnlyIfNoData result depth first.entry reader.old }
+    ensures shorter { LeavesNoMore result reader.old reader.new }
 {
     if let Token::String(text) = first {
         return Ok(Some(text));
@@ -33,9 +32,9 @@ pub fn truth<'a>(
     reader: &mut Reader<'a>,
     depth: usize,
 ) -> Result<Option<bool>, ReadError>
-    ensures ok { IfOk result (λ o. IsRead boolean is_truth depth (token_of first.entry ∷ reader.old) reader.new o) }
-    ensures err { IsErrOf result ReadError.NotJson → data_of depth (token_of first.entry ∷ reader.old) ≡ None }
-    ensures shorter { OnOk result (length reader.new ≤ length reader.old) }
+    ensures ok { ReadsForm result boolean is_truth depth first.entry reader.old reader.new }
+    ensures err { NotJsonOnlyIfNoData result depth first.entry reader.old }
+    ensures shorter { LeavesNoMore result reader.old reader.new }
 {
     if let Token::Bool(truth) = first {
         return Ok(Some(truth));
@@ -50,9 +49,9 @@ pub fn natural<'a>(
     reader: &mut Reader<'a>,
     depth: usize,
 ) -> Result<Option<u64>, ReadError>
-    ensures ok { IfOk result (λ o. IsRead (λ n. numeral (unsigned n)) is_natural depth (token_of first.entry ∷ reader.old) reader.new o) }
-    ensures err { IsErrOf result ReadError.NotJson → data_of depth (token_of first.entry ∷ reader.old) ≡ None }
-    ensures shorter { OnOk result (length reader.new ≤ length reader.old) }
+    ensures ok { ReadsForm result (λ n. numeral (unsigned n)) is_natural depth first.entry reader.old reader.new }
+    ensures err { NotJsonOnlyIfNoData result depth first.entry reader.old }
+    ensures shorter { LeavesNoMore result reader.old reader.new }
 {
     if let Token::Number(text) = first {
         return match number(text) {
@@ -70,9 +69,9 @@ pub fn short<'a>(
     reader: &mut Reader<'a>,
     depth: usize,
 ) -> Result<Option<u16>, ReadError>
-    ensures ok { IfOk result (λ o. IsRead (λ n. numeral (unsigned n)) is_short depth (token_of first.entry ∷ reader.old) reader.new o) }
-    ensures err { IsErrOf result ReadError.NotJson → data_of depth (token_of first.entry ∷ reader.old) ≡ None }
-    ensures shorter { OnOk result (length reader.new ≤ length reader.old) }
+    ensures ok { ReadsForm result (λ n. numeral (unsigned n)) is_short depth first.entry reader.old reader.new }
+    ensures err { NotJsonOnlyIfNoData result depth first.entry reader.old }
+    ensures shorter { LeavesNoMore result reader.old reader.new }
 {
     match natural(first, reader, depth)? {
         Some(n) if n < 65536 => Ok(Some(n as u16)),
@@ -86,11 +85,9 @@ pub fn open_object<'a>(
     reader: &mut Reader<'a>,
     depth: usize,
 ) -> Result<Option<usize>, ReadError>
-    ensures ok { IfOk result (λ o. MatchOption o
-        ((d : Data) × (data_of depth (token_of first.entry ∷ reader.old) ≡ Some (d, reader.new)) × (is_object d ≡ false))
-        (λ inner. (token_of first.entry ≡ begin_object) × (depth ≡ suc inner) × (reader.new ≡ reader.old))) }
-    ensures err { IsErrOf result ReadError.NotJson → data_of depth (token_of first.entry ∷ reader.old) ≡ None }
-    ensures shorter { OnOk result (length reader.new ≤ length reader.old) }
+    ensures ok { Opens result begin_object is_object depth first.entry reader.old reader.new }
+    ensures err { NotJsonOnlyIfNoData result depth first.entry reader.old }
+    ensures shorter { LeavesNoMore result reader.old reader.new }
 {
     if let Token::BeginObject = first {
         if depth == 0 {
@@ -108,11 +105,9 @@ pub fn open_array<'a>(
     reader: &mut Reader<'a>,
     depth: usize,
 ) -> Result<Option<usize>, ReadError>
-    ensures ok { IfOk result (λ o. MatchOption o
-        ((d : Data) × (data_of depth (token_of first.entry ∷ reader.old) ≡ Some (d, reader.new)) × (is_array d ≡ false))
-        (λ inner. (token_of first.entry ≡ begin_array) × (depth ≡ suc inner) × (reader.new ≡ reader.old))) }
-    ensures err { IsErrOf result ReadError.NotJson → data_of depth (token_of first.entry ∷ reader.old) ≡ None }
-    ensures shorter { OnOk result (length reader.new ≤ length reader.old) }
+    ensures ok { Opens result begin_array is_array depth first.entry reader.old reader.new }
+    ensures err { NotJsonOnlyIfNoData result depth first.entry reader.old }
+    ensures shorter { LeavesNoMore result reader.old reader.new }
 {
     if let Token::BeginArray = first {
         if depth == 0 {

@@ -1,10 +1,9 @@
 //! Two or three values, each of its own type: an array of exactly these.
-ghost use Rattle.std.specs.Prelude.{◌≡◌, ◌⊎◌, ◌≤◌, [], ◌∷◌, length, Some, None, false, MatchOption, IfOk, OnOk, IsErrOf};
-ghost use Rattle.json.specs.Reads.{token_of};
+ghost use Rattle.std.specs.Prelude.{◌≡◌, ◌⊎◌, [], ◌∷◌, Some, None, MatchOption, IfOk};
 ghost use Rattle.serde_json.specs.Data.{Items, number as numeral, unsigned};
-ghost use Rattle.serde_json.specs.View.{items_of as to_items};
-ghost use Rattle.json_records.specs.Reading.{data_of, items_of, IsRead, is_natural, list_form};
-ghost use Rattle.json_records.specs.Rows.{pass_row, is_row};
+ghost use Rattle.json_records.specs.Reading.{items_of, is_natural};
+ghost use Rattle.json_records.specs.Rows.{pass_row};
+ghost use Rattle.json_records.specs.Readers.{ReadsRow, ReadsItems, NotJsonOnlyIfNone, NotJsonOnlyIfNoData, LeavesNoMore};
 
 use crate::error::{ReadError, next_item, next_token};
 use crate::lists::Reads;
@@ -32,7 +31,8 @@ pub fn all_three<A: Drop, B: Drop, C: Drop>(
     two: Option<B>,
     three: Option<C>,
 ) -> Option<(A, B, C)>
-    ensures { MatchOption result ((one ≡ None) ⊎ ((two ≡ None) ⊎ (three ≡ None))) (λ p. (one ≡ Some p.0) × (two ≡ Some p.1) × (three ≡ Some p.2)) }
+    ensures { MatchOption result ((one ≡ None) ⊎ ((two ≡ None) ⊎ (three ≡ None)))
+        (λ p. (one ≡ Some p.0) × (two ≡ Some p.1) × (three ≡ Some p.2)) }
 {
     let Some(one) = one else {
         return None;
@@ -53,9 +53,10 @@ pub fn read_pair<'a, A: Drop, B: Drop, K: Reads<A>, L: Reads<B>>(
     reader: &mut Reader<'a>,
     depth: usize,
 ) -> Result<Option<(A, B)>, ReadError>
-    ensures ok { IfOk result (λ o. IsRead (λ p. list_form (K.Reads.form p.0 ∷ L.Reads.form p.1 ∷ [])) (is_row (K.Reads.can ∷ L.Reads.can ∷ [])) depth (token_of first.entry ∷ reader.old) reader.new o) }
-    ensures err { IsErrOf result ReadError.NotJson → data_of depth (token_of first.entry ∷ reader.old) ≡ None }
-    ensures shorter { OnOk result (length reader.new ≤ length reader.old) }
+    ensures ok { ReadsRow result (λ p. K.Reads.form p.0 ∷ L.Reads.form p.1 ∷ [])
+        (K.Reads.can ∷ L.Reads.can ∷ []) depth first.entry reader.old reader.new }
+    ensures err { NotJsonOnlyIfNoData result depth first.entry reader.old }
+    ensures shorter { LeavesNoMore result reader.old reader.new }
 {
     match open_array(first, reader, depth)? {
         Some(depth) => last_two::<A, B, K, L>(alloc, reader, depth),
@@ -69,9 +70,10 @@ pub fn read_two_naturals<'a>(
     reader: &mut Reader<'a>,
     depth: usize,
 ) -> Result<Option<(u64, u64)>, ReadError>
-    ensures ok { IfOk result (λ o. IsRead (λ p. list_form (numeral (unsigned p.0) ∷ numeral (unsigned p.1) ∷ [])) (is_row (is_natural ∷ is_natural ∷ [])) depth (token_of first.entry ∷ reader.old) reader.new o) }
-    ensures err { IsErrOf result ReadError.NotJson → data_of depth (token_of first.entry ∷ reader.old) ≡ None }
-    ensures shorter { OnOk result (length reader.new ≤ length reader.old) }
+    ensures ok { ReadsRow result (λ p. numeral (unsigned p.0) ∷ numeral (unsigned p.1) ∷ [])
+        (is_natural ∷ is_natural ∷ []) depth first.entry reader.old reader.new }
+    ensures err { NotJsonOnlyIfNoData result depth first.entry reader.old }
+    ensures shorter { LeavesNoMore result reader.old reader.new }
 {
     match open_array(first, reader, depth)? {
         Some(depth) => last_naturals(reader, depth),
@@ -86,9 +88,10 @@ pub fn read_triple<'a, A: Drop, B: Drop, C: Drop, K: Reads<A>, L: Reads<B>, M: R
     reader: &mut Reader<'a>,
     depth: usize,
 ) -> Result<Option<(A, B, C)>, ReadError>
-    ensures ok { IfOk result (λ o. IsRead (λ p. list_form (K.Reads.form p.0 ∷ L.Reads.form p.1 ∷ M.Reads.form p.2 ∷ [])) (is_row (K.Reads.can ∷ L.Reads.can ∷ M.Reads.can ∷ [])) depth (token_of first.entry ∷ reader.old) reader.new o) }
-    ensures err { IsErrOf result ReadError.NotJson → data_of depth (token_of first.entry ∷ reader.old) ≡ None }
-    ensures shorter { OnOk result (length reader.new ≤ length reader.old) }
+    ensures ok { ReadsRow result (λ p. K.Reads.form p.0 ∷ L.Reads.form p.1 ∷ M.Reads.form p.2 ∷ [])
+        (K.Reads.can ∷ L.Reads.can ∷ M.Reads.can ∷ []) depth first.entry reader.old reader.new }
+    ensures err { NotJsonOnlyIfNoData result depth first.entry reader.old }
+    ensures shorter { LeavesNoMore result reader.old reader.new }
 {
     match open_array(first, reader, depth)? {
         Some(depth) => last_three::<A, B, C, K, L, M>(alloc, reader, depth),
@@ -102,9 +105,10 @@ fn last_three<'a, A: Drop, B: Drop, C: Drop, K: Reads<A>, L: Reads<B>, M: Reads<
     reader: &mut Reader<'a>,
     depth: usize,
 ) -> Result<Option<(A, B, C)>, ReadError>
-    ensures ok { IfOk result (λ o. (ds : Items) × (items_of depth reader.old ≡ Some (ds, reader.new)) × MatchOption o (pass_row (K.Reads.can ∷ L.Reads.can ∷ M.Reads.can ∷ []) ds ≡ false) (λ p. ds ≡ to_items (K.Reads.form p.0 ∷ L.Reads.form p.1 ∷ M.Reads.form p.2 ∷ []))) }
-    ensures err { IsErrOf result ReadError.NotJson → items_of depth reader.old ≡ None }
-    ensures shorter { OnOk result (length reader.new ≤ length reader.old) }
+    ensures ok { ReadsItems result (λ p. K.Reads.form p.0 ∷ L.Reads.form p.1 ∷ M.Reads.form p.2 ∷ [])
+        (K.Reads.can ∷ L.Reads.can ∷ M.Reads.can ∷ []) depth reader.old reader.new }
+    ensures err { NotJsonOnlyIfNone result (items_of depth reader.old) }
+    ensures shorter { LeavesNoMore result reader.old reader.new }
 {
     let Some(first) = next_item(reader)? else {
         return Ok(None);
@@ -130,9 +134,10 @@ fn last_two<'a, A: Drop, B: Drop, K: Reads<A>, L: Reads<B>>(
     reader: &mut Reader<'a>,
     depth: usize,
 ) -> Result<Option<(A, B)>, ReadError>
-    ensures ok { IfOk result (λ o. (ds : Items) × (items_of depth reader.old ≡ Some (ds, reader.new)) × MatchOption o (pass_row (K.Reads.can ∷ L.Reads.can ∷ []) ds ≡ false) (λ p. ds ≡ to_items (K.Reads.form p.0 ∷ L.Reads.form p.1 ∷ []))) }
-    ensures err { IsErrOf result ReadError.NotJson → items_of depth reader.old ≡ None }
-    ensures shorter { OnOk result (length reader.new ≤ length reader.old) }
+    ensures ok { ReadsItems result (λ p. K.Reads.form p.0 ∷ L.Reads.form p.1 ∷ [])
+        (K.Reads.can ∷ L.Reads.can ∷ []) depth reader.old reader.new }
+    ensures err { NotJsonOnlyIfNone result (items_of depth reader.old) }
+    ensures shorter { LeavesNoMore result reader.old reader.new }
 {
     let Some(first) = next_item(reader)? else {
         return Ok(None);
@@ -148,9 +153,9 @@ fn last_one<'a, A: Drop, K: Reads<A>>(
     reader: &mut Reader<'a>,
     depth: usize,
 ) -> Result<Option<A>, ReadError>
-    ensures ok { IfOk result (λ o. (ds : Items) × (items_of depth reader.old ≡ Some (ds, reader.new)) × MatchOption o (pass_row (K.Reads.can ∷ []) ds ≡ false) (λ x. ds ≡ to_items (K.Reads.form x ∷ []))) }
-    ensures err { IsErrOf result ReadError.NotJson → items_of depth reader.old ≡ None }
-    ensures shorter { OnOk result (length reader.new ≤ length reader.old) }
+    ensures ok { ReadsItems result (λ x. K.Reads.form x ∷ []) (K.Reads.can ∷ []) depth reader.old reader.new }
+    ensures err { NotJsonOnlyIfNone result (items_of depth reader.old) }
+    ensures shorter { LeavesNoMore result reader.old reader.new }
 {
     let Some(first) = next_item(reader)? else {
         return Ok(None);
@@ -165,9 +170,10 @@ fn last_one<'a, A: Drop, K: Reads<A>>(
 /// The last two items of an array, which are natural numbers below 2 ^ 64.
 #[inline(always)]
 fn last_naturals<'a>(reader: &mut Reader<'a>, depth: usize) -> Result<Option<(u64, u64)>, ReadError>
-    ensures ok { IfOk result (λ o. (ds : Items) × (items_of depth reader.old ≡ Some (ds, reader.new)) × MatchOption o (pass_row (is_natural ∷ is_natural ∷ []) ds ≡ false) (λ p. ds ≡ to_items (numeral (unsigned p.0) ∷ numeral (unsigned p.1) ∷ []))) }
-    ensures err { IsErrOf result ReadError.NotJson → items_of depth reader.old ≡ None }
-    ensures shorter { OnOk result (length reader.new ≤ length reader.old) }
+    ensures ok { ReadsItems result (λ p. numeral (unsigned p.0) ∷ numeral (unsigned p.1) ∷ [])
+        (is_natural ∷ is_natural ∷ []) depth reader.old reader.new }
+    ensures err { NotJsonOnlyIfNone result (items_of depth reader.old) }
+    ensures shorter { LeavesNoMore result reader.old reader.new }
 {
     let Some(first) = next_item(reader)? else {
         return Ok(None);
@@ -180,9 +186,9 @@ fn last_naturals<'a>(reader: &mut Reader<'a>, depth: usize) -> Result<Option<(u6
 /// The last item of an array, which is a natural number below 2 ^ 64.
 #[inline(always)]
 fn last_natural<'a>(reader: &mut Reader<'a>, depth: usize) -> Result<Option<u64>, ReadError>
-    ensures ok { IfOk result (λ o. (ds : Items) × (items_of depth reader.old ≡ Some (ds, reader.new)) × MatchOption o (pass_row (is_natural ∷ []) ds ≡ false) (λ n. ds ≡ to_items (numeral (unsigned n) ∷ []))) }
-    ensures err { IsErrOf result ReadError.NotJson → items_of depth reader.old ≡ None }
-    ensures shorter { OnOk result (length reader.new ≤ length reader.old) }
+    ensures ok { ReadsItems result (λ n. numeral (unsigned n) ∷ []) (is_natural ∷ []) depth reader.old reader.new }
+    ensures err { NotJsonOnlyIfNone result (items_of depth reader.old) }
+    ensures shorter { LeavesNoMore result reader.old reader.new }
 {
     let Some(first) = next_item(reader)? else {
         return Ok(None);
@@ -199,8 +205,8 @@ fn last_natural<'a>(reader: &mut Reader<'a>, depth: usize) -> Result<Option<u64>
 #[inline(always)]
 fn ends(reader: &mut Reader<'_>, depth: usize) -> Result<bool, ReadError>
     ensures ok { IfOk result (λ o. (ds : Items) × (items_of depth reader.old ≡ Some (ds, reader.new)) × (o ≡ pass_row [] ds)) }
-    ensures err { IsErrOf result ReadError.NotJson → items_of depth reader.old ≡ None }
-    ensures shorter { OnOk result (length reader.new ≤ length reader.old) }
+    ensures err { NotJsonOnlyIfNone result (items_of depth reader.old) }
+    ensures shorter { LeavesNoMore result reader.old reader.new }
 {
     if reader.take_end_array() {
         return Ok(true);

@@ -1,11 +1,10 @@
 //! Variants: a name alone, or an object whose one key is the name, over what the variant holds.
-ghost use Rattle.std.specs.Prelude.{◌≡◌, ◌≤◌, ◌∷◌, length, Some, None, true, false, not, option_map, MatchOption, IfOk, OnOk, IsErrOf};
+ghost use Rattle.std.specs.Prelude.{◌≡◌, false, not};
 ghost use Rattle.std.specs.Option.{option_map_or};
 ghost use Rattle.std.specs.Str.{bytes_eq};
-ghost use Rattle.json.specs.Reads.{token_of};
 ghost use Rattle.serde_json.specs.Data.{Data, string};
-ghost use Rattle.json_records.specs.Reading.{data_of, IsRead, IsReadUnder};
 ghost use Rattle.json_records.specs.Variants.{Made, is_variant};
+ghost use Rattle.json_records.specs.Readers.{ReadsForm, ReadsUnder, NotJsonOnlyIfNoData, LeavesNoMore};
 
 use crate::error::{ReadError, next_member};
 use crate::passing::pass;
@@ -41,9 +40,9 @@ pub trait Variant<T> {
         reader: &mut Reader<'a>,
         depth: usize,
     ) -> Result<Option<T>, ReadError>
-        ensures ok { IfOk result (λ o. IsReadUnder name.now form can depth (token_of first.entry ∷ reader.old) reader.new o) }
-        ensures err { IsErrOf result ReadError.NotJson → data_of depth (token_of first.entry ∷ reader.old) ≡ None }
-        ensures shorter { OnOk result (length reader.new ≤ length reader.old) };
+        ensures ok { ReadsUnder result name.now form can depth first.entry reader.old reader.new }
+        ensures err { NotJsonOnlyIfNoData result depth first.entry reader.old }
+        ensures shorter { LeavesNoMore result reader.old reader.new };
 }
 
 /// Whether the key is another one than that of the member before, if there was one.
@@ -63,9 +62,9 @@ pub fn read_variant<'a, T: Drop, K: Variant<T>>(
     reader: &mut Reader<'a>,
     depth: usize,
 ) -> Result<Option<T>, ReadError>
-    ensures ok { IfOk result (λ o. IsRead K.Variant.form K.Variant.can depth (token_of first.entry ∷ reader.old) reader.new o) }
-    ensures err { IsErrOf result ReadError.NotJson → data_of depth (token_of first.entry ∷ reader.old) ≡ None }
-    ensures shorter { OnOk result (length reader.new ≤ length reader.old) }
+    ensures ok { ReadsForm result K.Variant.form K.Variant.can depth first.entry reader.old reader.new }
+    ensures err { NotJsonOnlyIfNoData result depth first.entry reader.old }
+    ensures shorter { LeavesNoMore result reader.old reader.new }
 {
     if let Token::String(name) = first {
         return Ok(K::bare(name));

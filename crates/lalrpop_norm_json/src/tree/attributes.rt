@@ -1,10 +1,7 @@
 //! Attributes.
-ghost use Rattle.std.specs.Prelude.{◌≡◌, ◌≤◌, [], ◌∷◌, codes, map, length, None, IfOk, OnOk, IsErrOf};
-ghost use Rattle.json.specs.Reads.{token_of};
 ghost use Rattle.serde_json.specs.Data.{string};
-ghost use Rattle.json_records.specs.Reading.{data_of, list_form, is_list, may_be, maybe_form, IsRead, IsReadUnder};
-ghost use Rattle.json_records.specs.Rows.{is_row};
 ghost use Rattle.json_records.specs.Variants.{Made};
+ghost use Rattle.json_records.specs.Readers.{ReadsForm, ReadsUnder, ReadsList, NotJsonOnlyIfNoData, LeavesNoMore};
 ghost use Rattle.lalrpop_norm_json.specs.Shapes as shape;
 ghost use Rattle.lalrpop_norm_json.specs.Shapes.{is};
 ghost use Rattle.lalrpop_norm_tree_parts.specs.Attributes.{argument_view, attribute_view};
@@ -36,9 +33,10 @@ fn argument<'a>(
     reader: &mut Reader<'a>,
     depth: usize,
 ) -> Result<Option<AttributeArg>, ReadError>
-    ensures ok { IfOk result (λ o. IsRead (λ g. argument_form (argument_view g)) (is shape.attribute_argument) depth (token_of first.entry ∷ reader.old) reader.new o) }
-    ensures err { IsErrOf result ReadError.NotJson → data_of depth (token_of first.entry ∷ reader.old) ≡ None }
-    ensures shorter { OnOk result (length reader.new ≤ length reader.old) }
+    ensures ok { ReadsForm result (λ g. argument_form (argument_view g)) (is shape.attribute_argument)
+        depth first.entry reader.old reader.new }
+    ensures err { NotJsonOnlyIfNoData result depth first.entry reader.old }
+    ensures shorter { LeavesNoMore result reader.old reader.new }
 {
     if let Token::String(name) = first {
         return Ok(bare_argument(name));
@@ -73,9 +71,10 @@ fn argument_of<'a>(
     reader: &mut Reader<'a>,
     depth: usize,
 ) -> Result<Option<AttributeArg>, ReadError>
-    ensures ok { IfOk result (λ o. IsReadUnder name.now (λ g. argument_form (argument_view g)) (is shape.attribute_argument) depth (token_of first.entry ∷ reader.old) reader.new o) }
-    ensures err { IsErrOf result ReadError.NotJson → data_of depth (token_of first.entry ∷ reader.old) ≡ None }
-    ensures shorter { OnOk result (length reader.new ≤ length reader.old) }
+    ensures ok { ReadsUnder result name.now (λ g. argument_form (argument_view g)) (is shape.attribute_argument)
+        depth first.entry reader.old reader.new }
+    ensures err { NotJsonOnlyIfNoData result depth first.entry reader.old }
+    ensures shorter { LeavesNoMore result reader.old reader.new }
 {
     match name {
         "Paren" => match attributes(alloc, first, reader, depth)? {
@@ -100,9 +99,9 @@ fn attribute<'a>(
     reader: &mut Reader<'a>,
     depth: usize,
 ) -> Result<Option<Attribute>, ReadError>
-    ensures ok { IfOk result (λ o. IsRead (λ a. attribute_form (attribute_view a)) (is shape.attribute) depth (token_of first.entry ∷ reader.old) reader.new o) }
-    ensures err { IsErrOf result ReadError.NotJson → data_of depth (token_of first.entry ∷ reader.old) ≡ None }
-    ensures shorter { OnOk result (length reader.new ≤ length reader.old) }
+    ensures ok { ReadsForm result (λ a. attribute_form (attribute_view a)) (is shape.attribute) depth first.entry reader.old reader.new }
+    ensures err { NotJsonOnlyIfNoData result depth first.entry reader.old }
+    ensures shorter { LeavesNoMore result reader.old reader.new }
 {
     let Some(depth) = open_object(first, reader, depth)? else {
         return Ok(None);
@@ -144,9 +143,9 @@ fn attributes<'a>(
     reader: &mut Reader<'a>,
     depth: usize,
 ) -> Result<Option<Vec<Attribute>>, ReadError>
-    ensures ok { IfOk result (λ o. IsRead (λ xs. list_form (map (λ a. attribute_form (attribute_view a)) xs.items)) (is_list (is shape.attribute)) depth (token_of first.entry ∷ reader.old) reader.new o) }
-    ensures err { IsErrOf result ReadError.NotJson → data_of depth (token_of first.entry ∷ reader.old) ≡ None }
-    ensures shorter { OnOk result (length reader.new ≤ length reader.old) }
+    ensures ok { ReadsList result (λ a. attribute_form (attribute_view a)) (is shape.attribute) depth first.entry reader.old reader.new }
+    ensures err { NotJsonOnlyIfNoData result depth first.entry reader.old }
+    ensures shorter { LeavesNoMore result reader.old reader.new }
 {
     let Some(depth) = open_array(first, reader, depth)? else {
         return Ok(None);

@@ -1,7 +1,6 @@
 //! Where clauses and their bounds.
-ghost use Rattle.std.specs.Prelude.{◌≡◌, ◌≤◌, ◌∷◌, codes, length, None, IfOk, OnOk, IsErrOf};
-ghost use Rattle.json.specs.Reads.{token_of};
-ghost use Rattle.json_records.specs.Reading.{data_of, IsRead, IsReadUnder};
+ghost use Rattle.std.specs.Prelude.{codes};
+ghost use Rattle.json_records.specs.Readers.{ReadsUnder, NotJsonOnlyIfNoData, LeavesNoMore};
 ghost use Rattle.lalrpop_norm_json.specs.Shapes as shape;
 ghost use Rattle.lalrpop_norm_json.specs.Shapes.{is};
 ghost use Rattle.lalrpop_norm_tree_parts.specs.Bounds.{bound_parameter_view, bound_view, where_clause_view};
@@ -25,9 +24,10 @@ fn associated<'a>(
     reader: &mut Reader<'a>,
     depth: usize,
 ) -> Result<Option<TypeBoundParameter<TypeRef>>, ReadError>
-    ensures ok { IfOk result (λ o. IsReadUnder (codes "Associated") (λ p. bound_parameter_form (bound_parameter_view type_view p)) (is shape.bound_parameter) depth (token_of first.entry ∷ reader.old) reader.new o) }
-    ensures err { IsErrOf result ReadError.NotJson → data_of depth (token_of first.entry ∷ reader.old) ≡ None }
-    ensures shorter { OnOk result (length reader.new ≤ length reader.old) }
+    ensures ok { ReadsUnder result (codes "Associated") (λ p. bound_parameter_form (bound_parameter_view type_view p))
+        (is shape.bound_parameter) depth first.entry reader.old reader.new }
+    ensures err { NotJsonOnlyIfNoData result depth first.entry reader.old }
+    ensures shorter { LeavesNoMore result reader.old reader.new }
 {
     match read_pair::<Atom, TypeRef, Tree, Tree>(alloc, first, reader, depth)? {
         Some((name, of)) => Ok(Some(TypeBoundParameter::Associated(name, of))),
@@ -106,9 +106,10 @@ fn function_bound<'a>(
     reader: &mut Reader<'a>,
     depth: usize,
 ) -> Result<Option<TypeBound<TypeRef>>, ReadError>
-    ensures ok { IfOk result (λ o. IsReadUnder (codes "Fn") (λ b. bound_form (bound_view type_view b)) (is shape.bound) depth (token_of first.entry ∷ reader.old) reader.new o) }
-    ensures err { IsErrOf result ReadError.NotJson → data_of depth (token_of first.entry ∷ reader.old) ≡ None }
-    ensures shorter { OnOk result (length reader.new ≤ length reader.old) }
+    ensures ok { ReadsUnder result (codes "Fn") (λ b. bound_form (bound_view type_view b)) (is shape.bound)
+        depth first.entry reader.old reader.new }
+    ensures err { NotJsonOnlyIfNoData result depth first.entry reader.old }
+    ensures shorter { LeavesNoMore result reader.old reader.new }
 {
     match read_record::<
         Tree,
@@ -140,9 +141,10 @@ fn trait_bound<'a>(
     reader: &mut Reader<'a>,
     depth: usize,
 ) -> Result<Option<TypeBound<TypeRef>>, ReadError>
-    ensures ok { IfOk result (λ o. IsReadUnder (codes "Trait") (λ b. bound_form (bound_view type_view b)) (is shape.bound) depth (token_of first.entry ∷ reader.old) reader.new o) }
-    ensures err { IsErrOf result ReadError.NotJson → data_of depth (token_of first.entry ∷ reader.old) ≡ None }
-    ensures shorter { OnOk result (length reader.new ≤ length reader.old) }
+    ensures ok { ReadsUnder result (codes "Trait") (λ b. bound_form (bound_view type_view b)) (is shape.bound)
+        depth first.entry reader.old reader.new }
+    ensures err { NotJsonOnlyIfNoData result depth first.entry reader.old }
+    ensures shorter { LeavesNoMore result reader.old reader.new }
 {
     match read_record::<
         Tree,
@@ -234,9 +236,10 @@ fn lifetime_clause<'a>(
     reader: &mut Reader<'a>,
     depth: usize,
 ) -> Result<Option<WhereClause<TypeRef>>, ReadError>
-    ensures ok { IfOk result (λ o. IsReadUnder (codes "Lifetime") (λ c. where_clause_form (where_clause_view type_view c)) (is shape.where_clause) depth (token_of first.entry ∷ reader.old) reader.new o) }
-    ensures err { IsErrOf result ReadError.NotJson → data_of depth (token_of first.entry ∷ reader.old) ≡ None }
-    ensures shorter { OnOk result (length reader.new ≤ length reader.old) }
+    ensures ok { ReadsUnder result (codes "Lifetime") (λ c. where_clause_form (where_clause_view type_view c)) (is shape.where_clause)
+        depth first.entry reader.old reader.new }
+    ensures err { NotJsonOnlyIfNoData result depth first.entry reader.old }
+    ensures shorter { LeavesNoMore result reader.old reader.new }
 {
     match read_record::<Tree, And<Vec<Lifetime>, And<Lifetime, End>>>(
         alloc,
@@ -260,9 +263,10 @@ fn type_clause<'a>(
     reader: &mut Reader<'a>,
     depth: usize,
 ) -> Result<Option<WhereClause<TypeRef>>, ReadError>
-    ensures ok { IfOk result (λ o. IsReadUnder (codes "OfType") (λ c. where_clause_form (where_clause_view type_view c)) (is shape.where_clause) depth (token_of first.entry ∷ reader.old) reader.new o) }
-    ensures err { IsErrOf result ReadError.NotJson → data_of depth (token_of first.entry ∷ reader.old) ≡ None }
-    ensures shorter { OnOk result (length reader.new ≤ length reader.old) }
+    ensures ok { ReadsUnder result (codes "OfType") (λ c. where_clause_form (where_clause_view type_view c)) (is shape.where_clause)
+        depth first.entry reader.old reader.new }
+    ensures err { NotJsonOnlyIfNoData result depth first.entry reader.old }
+    ensures shorter { LeavesNoMore result reader.old reader.new }
 {
     match read_record::<
         Tree,

@@ -10,7 +10,8 @@ pub(crate) fn three_values<A: Drop, B: Drop, C: Drop>(
     fields: And<A, And<B, And<C, End>>>,
     strays: bool,
 ) -> Option<(A, B, C)>
-    ensures { MatchOption result ((strays ≡ true) ⊎ ((fields.first ≡ None) ⊎ ((fields.rest.first ≡ None) ⊎ (fields.rest.rest.first ≡ None))))
+    ensures { MatchOption result
+        ((strays ≡ true) ⊎ ((fields.first ≡ None) ⊎ ((fields.rest.first ≡ None) ⊎ (fields.rest.rest.first ≡ None))))
         (λ v. (strays ≡ false) × (fields.first ≡ Some v.0) × (fields.rest.first ≡ Some v.1) × (fields.rest.rest.first ≡ Some v.2)) }
 {
     if strays {

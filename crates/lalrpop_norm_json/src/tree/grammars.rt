@@ -1,8 +1,9 @@
 //! Items and grammars.
-ghost use Rattle.std.specs.Prelude.{◌≡◌, ◌≤◌, ◌∷◌, map, is_some, length, Some, None, false, MatchOption, IfOk, OnOk, IsErrOf};
+ghost use Rattle.std.specs.Prelude.{◌≡◌, ◌∷◌, map, is_some, Some, false, MatchOption, IfOk};
 ghost use Rattle.json.specs.Reads.{token_of};
 ghost use Rattle.serde_json.specs.Data.{Data};
 ghost use Rattle.json_records.specs.Reading.{data_of};
+ghost use Rattle.json_records.specs.Readers.{NotJsonOnlyIfNoData, LeavesNoMore};
 ghost use Rattle.lalrpop_norm_tree.specs.Items.{item_view, grammar_view};
 ghost use Rattle.lalrpop_norm_json.specs.ItemForms.{item_forms, grammar_form};
 ghost use Rattle.lalrpop_norm_json.specs.Shapes as shape;
@@ -129,8 +130,8 @@ pub(crate) fn grammar<'a>(
 ) -> Result<Option<Grammar>, ReadError>
     ensures ok { IfOk result (λ o. (d : Data) × (data_of depth (token_of first.entry ∷ reader.old) ≡ Some (d, reader.new))
         × MatchOption o (is shape.grammar d ≡ false) (λ g. grammar_form (grammar_view g) ≡ Some d)) }
-    ensures err { IsErrOf result ReadError.NotJson → data_of depth (token_of first.entry ∷ reader.old) ≡ None }
-    ensures shorter { OnOk result (length reader.new ≤ length reader.old) }
+    ensures err { NotJsonOnlyIfNoData result depth first.entry reader.old }
+    ensures shorter { LeavesNoMore result reader.old reader.new }
 {
     let read = read_record::<Tree, GrammarFields>(
         alloc,

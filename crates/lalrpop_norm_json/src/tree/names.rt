@@ -1,7 +1,4 @@
 //! Spans, names, terminals and paths.
-ghost use Rattle.std.specs.Prelude.{◌≡◌, ◌≤◌, ◌∷◌, length, None, IfOk, OnOk, IsErrOf};
-ghost use Rattle.json.specs.Reads.{token_of};
-ghost use Rattle.json_records.specs.Reading.{data_of, IsRead};
 
 use super::Tree;
 use json::{Reader, Token};

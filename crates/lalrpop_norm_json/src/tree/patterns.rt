@@ -1,10 +1,9 @@
 //! Patterns of conversions.
-ghost use Rattle.std.specs.Prelude.{◌≡◌, ◌≤◌, [], ◌∷◌, codes, map, length, None, IfOk, OnOk, IsErrOf};
-ghost use Rattle.json.specs.Reads.{token_of};
+ghost use Rattle.std.specs.Prelude.{[], ◌∷◌, codes, map};
 ghost use Rattle.serde_json.specs.Data.{string};
-ghost use Rattle.json_records.specs.Reading.{data_of, list_form, is_list, may_be, maybe_form, IsRead, IsReadUnder};
-ghost use Rattle.json_records.specs.Rows.{is_row};
+ghost use Rattle.json_records.specs.Reading.{list_form, is_list};
 ghost use Rattle.json_records.specs.Variants.{Made};
+ghost use Rattle.json_records.specs.Readers.{ReadsForm, ReadsUnder, ReadsList, ReadsRow, NotJsonOnlyIfNoData, LeavesNoMore};
 ghost use Rattle.lalrpop_norm_json.specs.Shapes as shape;
 ghost use Rattle.lalrpop_norm_json.specs.Shapes.{is};
 ghost use Rattle.lalrpop_norm_tree.specs.Types.{type_view};
@@ -42,9 +41,10 @@ fn pattern_kind<'a>(
     reader: &mut Reader<'a>,
     depth: usize,
 ) -> Result<Option<PatternKind<TypeRef>>, ReadError>
-    ensures ok { IfOk result (λ o. IsRead (λ k. pattern_kind_form (pattern_kind_view type_view k)) (is shape.pattern_kind) depth (token_of first.entry ∷ reader.old) reader.new o) }
-    ensures err { IsErrOf result ReadError.NotJson → data_of depth (token_of first.entry ∷ reader.old) ≡ None }
-    ensures shorter { OnOk result (length reader.new ≤ length reader.old) }
+    ensures ok { ReadsForm result (λ k. pattern_kind_form (pattern_kind_view type_view k)) (is shape.pattern_kind)
+        depth first.entry reader.old reader.new }
+    ensures err { NotJsonOnlyIfNoData result depth first.entry reader.old }
+    ensures shorter { LeavesNoMore result reader.old reader.new }
 {
     if let Token::String(name) = first {
         return Ok(bare_kind(name));
@@ -79,9 +79,10 @@ fn pattern_kind_of<'a>(
     reader: &mut Reader<'a>,
     depth: usize,
 ) -> Result<Option<PatternKind<TypeRef>>, ReadError>
-    ensures ok { IfOk result (λ o. IsReadUnder name.now (λ k. pattern_kind_form (pattern_kind_view type_view k)) (is shape.pattern_kind) depth (token_of first.entry ∷ reader.old) reader.new o) }
-    ensures err { IsErrOf result ReadError.NotJson → data_of depth (token_of first.entry ∷ reader.old) ≡ None }
-    ensures shorter { OnOk result (length reader.new ≤ length reader.old) }
+    ensures ok { ReadsUnder result name.now (λ k. pattern_kind_form (pattern_kind_view type_view k)) (is shape.pattern_kind)
+        depth first.entry reader.old reader.new }
+    ensures err { NotJsonOnlyIfNoData result depth first.entry reader.old }
+    ensures shorter { LeavesNoMore result reader.old reader.new }
 {
     match name {
         "Enum" => match path_and_patterns(alloc, first, reader, depth)? {
@@ -132,9 +133,11 @@ fn path_and_patterns<'a>(
     reader: &mut Reader<'a>,
     depth: usize,
 ) -> Result<Option<(Path, Vec<Pattern<TypeRef>>)>, ReadError>
-    ensures ok { IfOk result (λ o. IsRead (λ p. list_form (path_form (path_view p.0) ∷ list_form (map (λ p. pattern_form (pattern_view type_view p)) p.1.items) ∷ [])) (is_row (is shape.path ∷ is_list (is shape.pattern) ∷ [])) depth (token_of first.entry ∷ reader.old) reader.new o) }
-    ensures err { IsErrOf result ReadError.NotJson → data_of depth (token_of first.entry ∷ reader.old) ≡ None }
-    ensures shorter { OnOk result (length reader.new ≤ length reader.old) }
+    ensures ok { ReadsRow result
+        (λ p. path_form (path_view p.0) ∷ list_form (map (λ p. pattern_form (pattern_view type_view p)) p.1.items) ∷ [])
+        (is shape.path ∷ is_list (is shape.pattern) ∷ []) depth first.entry reader.old reader.new }
+    ensures err { NotJsonOnlyIfNoData result depth first.entry reader.old }
+    ensures shorter { LeavesNoMore result reader.old reader.new }
 {
     let Some(depth) = open_array(first, reader, depth)? else {
         return Ok(None);
@@ -172,9 +175,10 @@ fn structured<'a>(
     reader: &mut Reader<'a>,
     depth: usize,
 ) -> Result<Option<PatternKind<TypeRef>>, ReadError>
-    ensures ok { IfOk result (λ o. IsReadUnder (codes "Struct") (λ k. pattern_kind_form (pattern_kind_view type_view k)) (is shape.pattern_kind) depth (token_of first.entry ∷ reader.old) reader.new o) }
-    ensures err { IsErrOf result ReadError.NotJson → data_of depth (token_of first.entry ∷ reader.old) ≡ None }
-    ensures shorter { OnOk result (length reader.new ≤ length reader.old) }
+    ensures ok { ReadsUnder result (codes "Struct") (λ k. pattern_kind_form (pattern_kind_view type_view k)) (is shape.pattern_kind)
+        depth first.entry reader.old reader.new }
+    ensures err { NotJsonOnlyIfNoData result depth first.entry reader.old }
+    ensures shorter { LeavesNoMore result reader.old reader.new }
 {
     let Some(depth) = open_array(first, reader, depth)? else {
         return Ok(None);
@@ -219,9 +223,10 @@ fn field_pattern<'a>(
     reader: &mut Reader<'a>,
     depth: usize,
 ) -> Result<Option<FieldPattern<TypeRef>>, ReadError>
-    ensures ok { IfOk result (λ o. IsRead (λ f. field_form (field_view type_view f)) (is shape.field_pattern) depth (token_of first.entry ∷ reader.old) reader.new o) }
-    ensures err { IsErrOf result ReadError.NotJson → data_of depth (token_of first.entry ∷ reader.old) ≡ None }
-    ensures shorter { OnOk result (length reader.new ≤ length reader.old) }
+    ensures ok { ReadsForm result (λ f. field_form (field_view type_view f)) (is shape.field_pattern)
+        depth first.entry reader.old reader.new }
+    ensures err { NotJsonOnlyIfNoData result depth first.entry reader.old }
+    ensures shorter { LeavesNoMore result reader.old reader.new }
 {
     let Some(depth) = open_object(first, reader, depth)? else {
         return Ok(None);
@@ -267,9 +272,10 @@ fn field_patterns<'a>(
     reader: &mut Reader<'a>,
     depth: usize,
 ) -> Result<Option<Vec<FieldPattern<TypeRef>>>, ReadError>
-    ensures ok { IfOk result (λ o. IsRead (λ xs. list_form (map (λ f. field_form (field_view type_view f)) xs.items)) (is_list (is shape.field_pattern)) depth (token_of first.entry ∷ reader.old) reader.new o) }
-    ensures err { IsErrOf result ReadError.NotJson → data_of depth (token_of first.entry ∷ reader.old) ≡ None }
-    ensures shorter { OnOk result (length reader.new ≤ length reader.old) }
+    ensures ok { ReadsList result (λ f. field_form (field_view type_view f)) (is shape.field_pattern)
+        depth first.entry reader.old reader.new }
+    ensures err { NotJsonOnlyIfNoData result depth first.entry reader.old }
+    ensures shorter { LeavesNoMore result reader.old reader.new }
 {
     let Some(depth) = open_array(first, reader, depth)? else {
         return Ok(None);
@@ -296,9 +302,10 @@ fn pattern<'a>(
     reader: &mut Reader<'a>,
     depth: usize,
 ) -> Result<Option<Pattern<TypeRef>>, ReadError>
-    ensures ok { IfOk result (λ o. IsRead (λ p. pattern_form (pattern_view type_view p)) (is shape.pattern) depth (token_of first.entry ∷ reader.old) reader.new o) }
-    ensures err { IsErrOf result ReadError.NotJson → data_of depth (token_of first.entry ∷ reader.old) ≡ None }
-    ensures shorter { OnOk result (length reader.new ≤ length reader.old) }
+    ensures ok { ReadsForm result (λ p. pattern_form (pattern_view type_view p)) (is shape.pattern)
+        depth first.entry reader.old reader.new }
+    ensures err { NotJsonOnlyIfNoData result depth first.entry reader.old }
+    ensures shorter { LeavesNoMore result reader.old reader.new }
 {
     let Some(depth) = open_object(first, reader, depth)? else {
         return Ok(None);
@@ -335,9 +342,10 @@ fn patterns<'a>(
     reader: &mut Reader<'a>,
     depth: usize,
 ) -> Result<Option<Vec<Pattern<TypeRef>>>, ReadError>
-    ensures ok { IfOk result (λ o. IsRead (λ xs. list_form (map (λ p. pattern_form (pattern_view type_view p)) xs.items)) (is_list (is shape.pattern)) depth (token_of first.entry ∷ reader.old) reader.new o) }
-    ensures err { IsErrOf result ReadError.NotJson → data_of depth (token_of first.entry ∷ reader.old) ≡ None }
-    ensures shorter { OnOk result (length reader.new ≤ length reader.old) }
+    ensures ok { ReadsList result (λ p. pattern_form (pattern_view type_view p)) (is shape.pattern)
+        depth first.entry reader.old reader.new }
+    ensures err { NotJsonOnlyIfNoData result depth first.entry reader.old }
+    ensures shorter { LeavesNoMore result reader.old reader.new }
 {
     let Some(depth) = open_array(first, reader, depth)? else {
         return Ok(None);

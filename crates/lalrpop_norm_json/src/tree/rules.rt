@@ -1,5 +1,4 @@
 //! Rules and their alternatives.
-ghost use Rattle.std.specs.Prelude.{◌≡◌, ◌≤◌, ◌∷◌, length, None, IfOk, OnOk, IsErrOf};
 
 use super::Tree;
 use json::{Reader, Token};

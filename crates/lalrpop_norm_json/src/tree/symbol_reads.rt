@@ -1,8 +1,5 @@
 //! Symbols whose JSON form is one word; and the readers of symbols and groups of them, as those of other parts ask for them.
-ghost use Rattle.std.specs.Prelude.{◌≡◌, ◌≤◌, ◌∷◌, length, None, IfOk, OnOk, IsErrOf};
-ghost use Rattle.json.specs.Reads.{token_of};
 ghost use Rattle.serde_json.specs.Data.{string};
-ghost use Rattle.json_records.specs.Reading.{data_of, IsRead};
 ghost use Rattle.json_records.specs.Variants.{Made};
 ghost use Rattle.lalrpop_norm_json.specs.Shapes as shape;
 ghost use Rattle.lalrpop_norm_json.specs.Shapes.{is};

@@ -1,7 +1,6 @@
 //! Symbols.
-ghost use Rattle.std.specs.Prelude.{◌≡◌, ◌≤◌, [], ◌∷◌, codes, map, length, None, IfOk, OnOk, IsErrOf};
-ghost use Rattle.json.specs.Reads.{token_of};
-ghost use Rattle.json_records.specs.Reading.{data_of, list_form, is_list, IsRead, IsReadUnder};
+ghost use Rattle.std.specs.Prelude.{codes};
+ghost use Rattle.json_records.specs.Readers.{ReadsForm, ReadsUnder, ReadsList, NotJsonOnlyIfNoData, LeavesNoMore};
 ghost use Rattle.lalrpop_norm_json.specs.Shapes as shape;
 ghost use Rattle.lalrpop_norm_json.specs.Shapes.{is};
 ghost use Rattle.lalrpop_norm_tree.specs.Symbols.{kind_view, symbol_view, expr_view};
@@ -28,9 +27,9 @@ pub(crate) fn kind<'a>(
     reader: &mut Reader<'a>,
     depth: usize,
 ) -> Result<Option<SymbolKind>, ReadError>
-    ensures ok { IfOk result (λ o. IsRead (λ k. kind_form (kind_view k)) (is shape.kind) depth (token_of first.entry ∷ reader.old) reader.new o) }
-    ensures err { IsErrOf result ReadError.NotJson → data_of depth (token_of first.entry ∷ reader.old) ≡ None }
-    ensures shorter { OnOk result (length reader.new ≤ length reader.old) }
+    ensures ok { ReadsForm result (λ k. kind_form (kind_view k)) (is shape.kind) depth first.entry reader.old reader.new }
+    ensures err { NotJsonOnlyIfNoData result depth first.entry reader.old }
+    ensures shorter { LeavesNoMore result reader.old reader.new }
 {
     if let Token::String(name) = first {
         return Ok(bare_kind(name));
@@ -65,9 +64,9 @@ fn kind_of<'a>(
     reader: &mut Reader<'a>,
     depth: usize,
 ) -> Result<Option<SymbolKind>, ReadError>
-    ensures ok { IfOk result (λ o. IsReadUnder name.now (λ k. kind_form (kind_view k)) (is shape.kind) depth (token_of first.entry ∷ reader.old) reader.new o) }
-    ensures err { IsErrOf result ReadError.NotJson → data_of depth (token_of first.entry ∷ reader.old) ≡ None }
-    ensures shorter { OnOk result (length reader.new ≤ length reader.old) }
+    ensures ok { ReadsUnder result name.now (λ k. kind_form (kind_view k)) (is shape.kind) depth first.entry reader.old reader.new }
+    ensures err { NotJsonOnlyIfNoData result depth first.entry reader.old }
+    ensures shorter { LeavesNoMore result reader.old reader.new }
 {
     match name {
         "Expr" => match group(alloc, first, reader, depth)? {
@@ -107,9 +106,9 @@ fn symbol<'a>(
     reader: &mut Reader<'a>,
     depth: usize,
 ) -> Result<Option<Symbol>, ReadError>
-    ensures ok { IfOk result (λ o. IsRead (λ s. part_form (symbol_view s)) (is shape.symbol) depth (token_of first.entry ∷ reader.old) reader.new o) }
-    ensures err { IsErrOf result ReadError.NotJson → data_of depth (token_of first.entry ∷ reader.old) ≡ None }
-    ensures shorter { OnOk result (length reader.new ≤ length reader.old) }
+    ensures ok { ReadsForm result (λ s. part_form (symbol_view s)) (is shape.symbol) depth first.entry reader.old reader.new }
+    ensures err { NotJsonOnlyIfNoData result depth first.entry reader.old }
+    ensures shorter { LeavesNoMore result reader.old reader.new }
 {
     let Some(depth) = open_object(first, reader, depth)? else {
         return Ok(None);
@@ -147,9 +146,9 @@ fn called<'a>(
     reader: &mut Reader<'a>,
     depth: usize,
 ) -> Result<Option<SymbolKind>, ReadError>
-    ensures ok { IfOk result (λ o. IsReadUnder (codes "Macro") (λ k. kind_form (kind_view k)) (is shape.kind) depth (token_of first.entry ∷ reader.old) reader.new o) }
-    ensures err { IsErrOf result ReadError.NotJson → data_of depth (token_of first.entry ∷ reader.old) ≡ None }
-    ensures shorter { OnOk result (length reader.new ≤ length reader.old) }
+    ensures ok { ReadsUnder result (codes "Macro") (λ k. kind_form (kind_view k)) (is shape.kind) depth first.entry reader.old reader.new }
+    ensures err { NotJsonOnlyIfNoData result depth first.entry reader.old }
+    ensures shorter { LeavesNoMore result reader.old reader.new }
 {
     let Some(depth) = open_object(first, reader, depth)? else {
         return Ok(None);
@@ -187,9 +186,9 @@ fn repeated<'a>(
     reader: &mut Reader<'a>,
     depth: usize,
 ) -> Result<Option<SymbolKind>, ReadError>
-    ensures ok { IfOk result (λ o. IsReadUnder (codes "Repeat") (λ k. kind_form (kind_view k)) (is shape.kind) depth (token_of first.entry ∷ reader.old) reader.new o) }
-    ensures err { IsErrOf result ReadError.NotJson → data_of depth (token_of first.entry ∷ reader.old) ≡ None }
-    ensures shorter { OnOk result (length reader.new ≤ length reader.old) }
+    ensures ok { ReadsUnder result (codes "Repeat") (λ k. kind_form (kind_view k)) (is shape.kind) depth first.entry reader.old reader.new }
+    ensures err { NotJsonOnlyIfNoData result depth first.entry reader.old }
+    ensures shorter { LeavesNoMore result reader.old reader.new }
 {
     let Some(depth) = open_object(first, reader, depth)? else {
         return Ok(None);
@@ -233,9 +232,9 @@ fn chosen<'a>(
     reader: &mut Reader<'a>,
     depth: usize,
 ) -> Result<Option<SymbolKind>, ReadError>
-    ensures ok { IfOk result (λ o. IsReadUnder (codes "Choose") (λ k. kind_form (kind_view k)) (is shape.kind) depth (token_of first.entry ∷ reader.old) reader.new o) }
-    ensures err { IsErrOf result ReadError.NotJson → data_of depth (token_of first.entry ∷ reader.old) ≡ None }
-    ensures shorter { OnOk result (length reader.new ≤ length reader.old) }
+    ensures ok { ReadsUnder result (codes "Choose") (λ k. kind_form (kind_view k)) (is shape.kind) depth first.entry reader.old reader.new }
+    ensures err { NotJsonOnlyIfNoData result depth first.entry reader.old }
+    ensures shorter { LeavesNoMore result reader.old reader.new }
 {
     match symbol(alloc, first, reader, depth)? {
         Some(symbol) => Ok(Some(SymbolKind::Choose(Box::new(alloc, symbol)?))),
@@ -251,9 +250,9 @@ fn named<'a>(
     reader: &mut Reader<'a>,
     depth: usize,
 ) -> Result<Option<SymbolKind>, ReadError>
-    ensures ok { IfOk result (λ o. IsReadUnder (codes "Name") (λ k. kind_form (kind_view k)) (is shape.kind) depth (token_of first.entry ∷ reader.old) reader.new o) }
-    ensures err { IsErrOf result ReadError.NotJson → data_of depth (token_of first.entry ∷ reader.old) ≡ None }
-    ensures shorter { OnOk result (length reader.new ≤ length reader.old) }
+    ensures ok { ReadsUnder result (codes "Name") (λ k. kind_form (kind_view k)) (is shape.kind) depth first.entry reader.old reader.new }
+    ensures err { NotJsonOnlyIfNoData result depth first.entry reader.old }
+    ensures shorter { LeavesNoMore result reader.old reader.new }
 {
     let Some(depth) = open_array(first, reader, depth)? else {
         return Ok(None);
@@ -294,9 +293,9 @@ fn tupled<'a>(
     reader: &mut Reader<'a>,
     depth: usize,
 ) -> Result<Option<SymbolKind>, ReadError>
-    ensures ok { IfOk result (λ o. IsReadUnder (codes "Tuple") (λ k. kind_form (kind_view k)) (is shape.kind) depth (token_of first.entry ∷ reader.old) reader.new o) }
-    ensures err { IsErrOf result ReadError.NotJson → data_of depth (token_of first.entry ∷ reader.old) ≡ None }
-    ensures shorter { OnOk result (length reader.new ≤ length reader.old) }
+    ensures ok { ReadsUnder result (codes "Tuple") (λ k. kind_form (kind_view k)) (is shape.kind) depth first.entry reader.old reader.new }
+    ensures err { NotJsonOnlyIfNoData result depth first.entry reader.old }
+    ensures shorter { LeavesNoMore result reader.old reader.new }
 {
     let Some(depth) = open_array(first, reader, depth)? else {
         return Ok(None);
@@ -337,9 +336,9 @@ pub(crate) fn group<'a>(
     reader: &mut Reader<'a>,
     depth: usize,
 ) -> Result<Option<ExprSymbol>, ReadError>
-    ensures ok { IfOk result (λ o. IsRead (λ e. group_form (expr_view e)) (is shape.group) depth (token_of first.entry ∷ reader.old) reader.new o) }
-    ensures err { IsErrOf result ReadError.NotJson → data_of depth (token_of first.entry ∷ reader.old) ≡ None }
-    ensures shorter { OnOk result (length reader.new ≤ length reader.old) }
+    ensures ok { ReadsForm result (λ e. group_form (expr_view e)) (is shape.group) depth first.entry reader.old reader.new }
+    ensures err { NotJsonOnlyIfNoData result depth first.entry reader.old }
+    ensures shorter { LeavesNoMore result reader.old reader.new }
 {
     let Some(depth) = open_object(first, reader, depth)? else {
         return Ok(None);
@@ -371,9 +370,9 @@ fn symbols<'a>(
     reader: &mut Reader<'a>,
     depth: usize,
 ) -> Result<Option<Vec<Symbol>>, ReadError>
-    ensures ok { IfOk result (λ o. IsRead (λ xs. list_form (map (λ s. part_form (symbol_view s)) xs.items)) (is_list (is shape.symbol)) depth (token_of first.entry ∷ reader.old) reader.new o) }
-    ensures err { IsErrOf result ReadError.NotJson → data_of depth (token_of first.entry ∷ reader.old) ≡ None }
-    ensures shorter { OnOk result (length reader.new ≤ length reader.old) }
+    ensures ok { ReadsList result (λ s. part_form (symbol_view s)) (is shape.symbol) depth first.entry reader.old reader.new }
+    ensures err { NotJsonOnlyIfNoData result depth first.entry reader.old }
+    ensures shorter { LeavesNoMore result reader.old reader.new }
 {
     let Some(depth) = open_array(first, reader, depth)? else {
         return Ok(None);

@@ -1,7 +1,6 @@
 //! Match blocks and extern blocks.
-ghost use Rattle.std.specs.Prelude.{◌≡◌, ◌≤◌, ◌∷◌, codes, length, None, IfOk, OnOk, IsErrOf};
-ghost use Rattle.json.specs.Reads.{token_of};
-ghost use Rattle.json_records.specs.Reading.{data_of, IsRead, IsReadUnder};
+ghost use Rattle.std.specs.Prelude.{codes};
+ghost use Rattle.json_records.specs.Readers.{ReadsUnder, NotJsonOnlyIfNoData, LeavesNoMore};
 ghost use Rattle.lalrpop_norm_json.specs.Shapes as shape;
 ghost use Rattle.lalrpop_norm_json.specs.Shapes.{is};
 ghost use Rattle.lalrpop_norm_json.specs.ItemForms.{match_item_form};
@@ -85,9 +84,9 @@ fn unmapped<'a>(
     reader: &mut Reader<'a>,
     depth: usize,
 ) -> Result<Option<MatchItem>, ReadError>
-    ensures ok { IfOk result (λ o. IsReadUnder (codes "Unmapped") (match_item_form) (is shape.match_item) depth (token_of first.entry ∷ reader.old) reader.new o) }
-    ensures err { IsErrOf result ReadError.NotJson → data_of depth (token_of first.entry ∷ reader.old) ≡ None }
-    ensures shorter { OnOk result (length reader.new ≤ length reader.old) }
+    ensures ok { ReadsUnder result (codes "Unmapped") match_item_form (is shape.match_item) depth first.entry reader.old reader.new }
+    ensures err { NotJsonOnlyIfNoData result depth first.entry reader.old }
+    ensures shorter { LeavesNoMore result reader.old reader.new }
 {
     match read_pair::<TerminalLiteral, Span, Tree, Tree>(alloc, first, reader, depth)? {
         Some((literal, span)) => Ok(Some(MatchItem::Unmapped(literal, span))),
@@ -102,9 +101,9 @@ fn mapped<'a>(
     reader: &mut Reader<'a>,
     depth: usize,
 ) -> Result<Option<MatchItem>, ReadError>
-    ensures ok { IfOk result (λ o. IsReadUnder (codes "Mapped") (match_item_form) (is shape.match_item) depth (token_of first.entry ∷ reader.old) reader.new o) }
-    ensures err { IsErrOf result ReadError.NotJson → data_of depth (token_of first.entry ∷ reader.old) ≡ None }
-    ensures shorter { OnOk result (length reader.new ≤ length reader.old) }
+    ensures ok { ReadsUnder result (codes "Mapped") match_item_form (is shape.match_item) depth first.entry reader.old reader.new }
+    ensures err { NotJsonOnlyIfNoData result depth first.entry reader.old }
+    ensures shorter { LeavesNoMore result reader.old reader.new }
 {
     match read_triple::<TerminalLiteral, MatchMapping, Span, Tree, Tree, Tree>(
         alloc, first, reader, depth,

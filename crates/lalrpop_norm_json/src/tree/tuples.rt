@@ -1,10 +1,5 @@
 //! Names of symbols, and of the parts of tuples; operators of repeats.
-ghost use Rattle.std.specs.Prelude.{◌≡◌, ◌≤◌, [], ◌∷◌, codes, map, length, None, IfOk, OnOk, IsErrOf};
-ghost use Rattle.json.specs.Reads.{token_of};
-ghost use Rattle.serde_json.specs.Data.{string};
-ghost use Rattle.json_records.specs.Reading.{data_of, list_form, is_list, may_be, maybe_form, IsRead, IsReadUnder};
-ghost use Rattle.json_records.specs.Rows.{is_row};
-ghost use Rattle.json_records.specs.Variants.{Made};
+ghost use Rattle.json_records.specs.Readers.{ReadsForm, ReadsUnder, ReadsList, NotJsonOnlyIfNoData, LeavesNoMore};
 ghost use Rattle.lalrpop_norm_json.specs.Shapes as shape;
 ghost use Rattle.lalrpop_norm_json.specs.Shapes.{is};
 ghost use Rattle.lalrpop_norm_tree.specs.Symbols.{argument_pattern_view, tuple_view};
@@ -115,9 +110,10 @@ fn argument_pattern<'a>(
     reader: &mut Reader<'a>,
     depth: usize,
 ) -> Result<Option<ArgPattern>, ReadError>
-    ensures ok { IfOk result (λ o. IsRead (λ p. argument_pattern_form (argument_pattern_view p)) (is shape.argument_pattern) depth (token_of first.entry ∷ reader.old) reader.new o) }
-    ensures err { IsErrOf result ReadError.NotJson → data_of depth (token_of first.entry ∷ reader.old) ≡ None }
-    ensures shorter { OnOk result (length reader.new ≤ length reader.old) }
+    ensures ok { ReadsForm result (λ p. argument_pattern_form (argument_pattern_view p)) (is shape.argument_pattern)
+        depth first.entry reader.old reader.new }
+    ensures err { NotJsonOnlyIfNoData result depth first.entry reader.old }
+    ensures shorter { LeavesNoMore result reader.old reader.new }
 {
     let Some(depth) = open_object(first, reader, depth)? else {
         return Ok(None);
@@ -149,9 +145,10 @@ fn argument_pattern_of<'a>(
     reader: &mut Reader<'a>,
     depth: usize,
 ) -> Result<Option<ArgPattern>, ReadError>
-    ensures ok { IfOk result (λ o. IsReadUnder name.now (λ p. argument_pattern_form (argument_pattern_view p)) (is shape.argument_pattern) depth (token_of first.entry ∷ reader.old) reader.new o) }
-    ensures err { IsErrOf result ReadError.NotJson → data_of depth (token_of first.entry ∷ reader.old) ≡ None }
-    ensures shorter { OnOk result (length reader.new ≤ length reader.old) }
+    ensures ok { ReadsUnder result name.now (λ p. argument_pattern_form (argument_pattern_view p)) (is shape.argument_pattern)
+        depth first.entry reader.old reader.new }
+    ensures err { NotJsonOnlyIfNoData result depth first.entry reader.old }
+    ensures shorter { LeavesNoMore result reader.old reader.new }
 {
     match name {
         "Name" => match <Tree as Reads<Name>>::read(alloc, first, reader, depth)? {
@@ -177,9 +174,9 @@ fn tuple<'a>(
     reader: &mut Reader<'a>,
     depth: usize,
 ) -> Result<Option<Tuple>, ReadError>
-    ensures ok { IfOk result (λ o. IsRead (λ t. tuple_form (tuple_view t)) (is shape.name_tuple) depth (token_of first.entry ∷ reader.old) reader.new o) }
-    ensures err { IsErrOf result ReadError.NotJson → data_of depth (token_of first.entry ∷ reader.old) ≡ None }
-    ensures shorter { OnOk result (length reader.new ≤ length reader.old) }
+    ensures ok { ReadsForm result (λ t. tuple_form (tuple_view t)) (is shape.name_tuple) depth first.entry reader.old reader.new }
+    ensures err { NotJsonOnlyIfNoData result depth first.entry reader.old }
+    ensures shorter { LeavesNoMore result reader.old reader.new }
 {
     let Some(depth) = open_object(first, reader, depth)? else {
         return Ok(None);
@@ -211,9 +208,10 @@ fn argument_patterns<'a>(
     reader: &mut Reader<'a>,
     depth: usize,
 ) -> Result<Option<Vec<ArgPattern>>, ReadError>
-    ensures ok { IfOk result (λ o. IsRead (λ xs. list_form (map (λ p. argument_pattern_form (argument_pattern_view p)) xs.items)) (is_list (is shape.argument_pattern)) depth (token_of first.entry ∷ reader.old) reader.new o) }
-    ensures err { IsErrOf result ReadError.NotJson → data_of depth (token_of first.entry ∷ reader.old) ≡ None }
-    ensures shorter { OnOk result (length reader.new ≤ length reader.old) }
+    ensures ok { ReadsList result (λ p. argument_pattern_form (argument_pattern_view p)) (is shape.argument_pattern)
+        depth first.entry reader.old reader.new }
+    ensures err { NotJsonOnlyIfNoData result depth first.entry reader.old }
+    ensures shorter { LeavesNoMore result reader.old reader.new }
 {
     let Some(depth) = open_array(first, reader, depth)? else {
         return Ok(None);

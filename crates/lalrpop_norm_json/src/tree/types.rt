@@ -1,18 +1,16 @@
 //! Written types.
-ghost use Rattle.std.specs.Prelude.{◌≡◌, ◌≤◌, [], ◌∷◌, codes, map, option_map, length, None, IfOk, OnOk, IsErrOf};
+ghost use Rattle.std.specs.Prelude.{[], ◌∷◌, codes, map, IfOk};
 ghost use Rattle.json.specs.Reads.{token_of};
-ghost use Rattle.serde_json.specs.Data.{string, boolean};
-ghost use Rattle.json_records.specs.Reading.{data_of, list_form, is_list, may_be, maybe_form, is_text, is_truth, IsRead, IsReadUnder};
-ghost use Rattle.json_records.specs.Rows.{is_row};
-ghost use Rattle.json_records.specs.Variants.{Made};
+ghost use Rattle.json_records.specs.Reading.{list_form, may_be, maybe_form, is_text, is_truth};
+ghost use Rattle.json_records.specs.Readers.{ReadsForm, ReadsUnder, ReadsList, NotJsonOnlyIfNoData, LeavesNoMore};
 ghost use Rattle.lalrpop_norm_json.specs.Shapes as shape;
 ghost use Rattle.lalrpop_norm_json.specs.Shapes.{is};
 ghost use Rattle.lalrpop_norm_tree_parts.specs.Paths.{path_view};
 ghost use Rattle.lalrpop_norm_tree.specs.Types.{type_view};
 ghost use Rattle.lalrpop_norm_json.specs.Json.{fields};
 ghost use Rattle.lalrpop_norm_json.specs.Shapes.{fits, one, many, struct};
-ghost use Rattle.lalrpop_norm_json.specs.Taken.{IsTaken};
-ghost use Rattle.lalrpop_norm_json.specs.Forms.{path_form, lifetime_form};
+ghost use Rattle.lalrpop_norm_json.specs.Taken.{IsTaken, reference_held};
+ghost use Rattle.lalrpop_norm_json.specs.Forms.{path_form};
 ghost use Rattle.lalrpop_norm_json.specs.TypeForms.{type_form};
 
 use super::Tree;
@@ -34,9 +32,9 @@ fn type_ref<'a>(
     reader: &mut Reader<'a>,
     depth: usize,
 ) -> Result<Option<TypeRef>, ReadError>
-    ensures ok { IfOk result (λ o. IsRead (λ t. type_form (type_view t)) (is shape.type) depth (token_of first.entry ∷ reader.old) reader.new o) }
-    ensures err { IsErrOf result ReadError.NotJson → data_of depth (token_of first.entry ∷ reader.old) ≡ None }
-    ensures shorter { OnOk result (length reader.new ≤ length reader.old) }
+    ensures ok { ReadsForm result (λ t. type_form (type_view t)) (is shape.type) depth first.entry reader.old reader.new }
+    ensures err { NotJsonOnlyIfNoData result depth first.entry reader.old }
+    ensures shorter { LeavesNoMore result reader.old reader.new }
 {
     let Some(depth) = open_object(first, reader, depth)? else {
         return Ok(None);
@@ -68,9 +66,9 @@ fn type_of<'a>(
     reader: &mut Reader<'a>,
     depth: usize,
 ) -> Result<Option<TypeRef>, ReadError>
-    ensures ok { IfOk result (λ o. IsReadUnder name.now (λ t. type_form (type_view t)) (is shape.type) depth (token_of first.entry ∷ reader.old) reader.new o) }
-    ensures err { IsErrOf result ReadError.NotJson → data_of depth (token_of first.entry ∷ reader.old) ≡ None }
-    ensures shorter { OnOk result (length reader.new ≤ length reader.old) }
+    ensures ok { ReadsUnder result name.now (λ t. type_form (type_view t)) (is shape.type) depth first.entry reader.old reader.new }
+    ensures err { NotJsonOnlyIfNoData result depth first.entry reader.old }
+    ensures shorter { LeavesNoMore result reader.old reader.new }
 {
     match name {
         "Tuple" => match type_refs(alloc, first, reader, depth)? {
@@ -115,9 +113,9 @@ fn slice_type<'a>(
     reader: &mut Reader<'a>,
     depth: usize,
 ) -> Result<Option<TypeRef>, ReadError>
-    ensures ok { IfOk result (λ o. IsReadUnder (codes "Slice") (λ t. type_form (type_view t)) (is shape.type) depth (token_of first.entry ∷ reader.old) reader.new o) }
-    ensures err { IsErrOf result ReadError.NotJson → data_of depth (token_of first.entry ∷ reader.old) ≡ None }
-    ensures shorter { OnOk result (length reader.new ≤ length reader.old) }
+    ensures ok { ReadsUnder result (codes "Slice") (λ t. type_form (type_view t)) (is shape.type) depth first.entry reader.old reader.new }
+    ensures err { NotJsonOnlyIfNoData result depth first.entry reader.old }
+    ensures shorter { LeavesNoMore result reader.old reader.new }
 {
     match type_ref(alloc, first, reader, depth)? {
         Some(of) => Ok(Some(TypeRef::Slice(Box::new(alloc, of)?))),
@@ -133,9 +131,13 @@ fn path_and_types<'a>(
     reader: &mut Reader<'a>,
     depth: usize,
 ) -> Result<Option<(Path, Vec<TypeRef>)>, ReadError>
-    ensures ok { IfOk result (λ o. IsRead (λ p. fields ((codes "path", path_form (path_view p.0)) ∷ (codes "types", list_form (map (λ t. type_form (type_view t)) p.1.items)) ∷ [])) (fits (struct ((codes "path", one shape.path) ∷ (codes "types", many shape.type) ∷ []))) depth (token_of first.entry ∷ reader.old) reader.new o) }
-    ensures err { IsErrOf result ReadError.NotJson → data_of depth (token_of first.entry ∷ reader.old) ≡ None }
-    ensures shorter { OnOk result (length reader.new ≤ length reader.old) }
+    ensures ok { ReadsForm result
+        (λ p. fields ((codes "path", path_form (path_view p.0))
+        ∷ (codes "types", list_form (map (λ t. type_form (type_view t)) p.1.items)) ∷ []))
+        (fits (struct ((codes "path", one shape.path) ∷ (codes "types", many shape.type) ∷ [])))
+        depth first.entry reader.old reader.new }
+    ensures err { NotJsonOnlyIfNoData result depth first.entry reader.old }
+    ensures shorter { LeavesNoMore result reader.old reader.new }
 {
     let Some(depth) = open_object(first, reader, depth)? else {
         return Ok(None);
@@ -173,9 +175,9 @@ fn reference_type<'a>(
     reader: &mut Reader<'a>,
     depth: usize,
 ) -> Result<Option<TypeRef>, ReadError>
-    ensures ok { IfOk result (λ o. IsReadUnder (codes "Ref") (λ t. type_form (type_view t)) (is shape.type) depth (token_of first.entry ∷ reader.old) reader.new o) }
-    ensures err { IsErrOf result ReadError.NotJson → data_of depth (token_of first.entry ∷ reader.old) ≡ None }
-    ensures shorter { OnOk result (length reader.new ≤ length reader.old) }
+    ensures ok { ReadsUnder result (codes "Ref") (λ t. type_form (type_view t)) (is shape.type) depth first.entry reader.old reader.new }
+    ensures err { NotJsonOnlyIfNoData result depth first.entry reader.old }
+    ensures shorter { LeavesNoMore result reader.old reader.new }
 {
     let Some(depth) = open_object(first, reader, depth)? else {
         return Ok(None);
@@ -215,11 +217,11 @@ fn reference_field<'a>(
     reader: &mut Reader<'a>,
     depth: usize,
 ) -> Result<bool, ReadError>
-    ensures ok { IfOk result (λ known. IsTaken (codes "lifetime" ∷ codes "mutable" ∷ codes "referent" ∷ []) (may_be is_text ∷ is_truth ∷ is shape.type ∷ []) member.entry.0.now depth (token_of member.entry.1 ∷ reader.old) reader.new
-        (option_map (maybe_form lifetime_form) fields.old.first ∷ option_map boolean fields.old.rest.first ∷ option_map (λ t. type_form (type_view t)) fields.old.rest.rest.first ∷ [])
-        (option_map (maybe_form lifetime_form) fields.new.first ∷ option_map boolean fields.new.rest.first ∷ option_map (λ t. type_form (type_view t)) fields.new.rest.rest.first ∷ []) known) }
-    ensures err { IsErrOf result ReadError.NotJson → data_of depth (token_of member.entry.1 ∷ reader.old) ≡ None }
-    ensures shorter { OnOk result (length reader.new ≤ length reader.old) }
+    ensures ok { IfOk result (λ known. IsTaken (codes "lifetime" ∷ codes "mutable" ∷ codes "referent" ∷ [])
+        (may_be is_text ∷ is_truth ∷ is shape.type ∷ []) member.entry.0.now depth (token_of member.entry.1 ∷ reader.old) reader.new
+        (reference_held fields.old) (reference_held fields.new) known) }
+    ensures err { NotJsonOnlyIfNoData result depth member.entry.1 reader.old }
+    ensures shorter { LeavesNoMore result reader.old reader.new }
 {
     let (key, first) = member;
     match key {
@@ -250,9 +252,9 @@ fn function_type<'a>(
     reader: &mut Reader<'a>,
     depth: usize,
 ) -> Result<Option<TypeRef>, ReadError>
-    ensures ok { IfOk result (λ o. IsReadUnder (codes "Fn") (λ t. type_form (type_view t)) (is shape.type) depth (token_of first.entry ∷ reader.old) reader.new o) }
-    ensures err { IsErrOf result ReadError.NotJson → data_of depth (token_of first.entry ∷ reader.old) ≡ None }
-    ensures shorter { OnOk result (length reader.new ≤ length reader.old) }
+    ensures ok { ReadsUnder result (codes "Fn") (λ t. type_form (type_view t)) (is shape.type) depth first.entry reader.old reader.new }
+    ensures err { NotJsonOnlyIfNoData result depth first.entry reader.old }
+    ensures shorter { LeavesNoMore result reader.old reader.new }
 {
     let Some(depth) = open_object(first, reader, depth)? else {
         return Ok(None);
@@ -307,9 +309,10 @@ fn maybe_type_ref<'a>(
     reader: &mut Reader<'a>,
     depth: usize,
 ) -> Result<Option<Option<Box<TypeRef>>>, ReadError>
-    ensures ok { IfOk result (λ o. IsRead (maybe_form (λ b. type_form (type_view b.value))) (may_be (is shape.type)) depth (token_of first.entry ∷ reader.old) reader.new o) }
-    ensures err { IsErrOf result ReadError.NotJson → data_of depth (token_of first.entry ∷ reader.old) ≡ None }
-    ensures shorter { OnOk result (length reader.new ≤ length reader.old) }
+    ensures ok { ReadsForm result (maybe_form (λ b. type_form (type_view b.value))) (may_be (is shape.type))
+        depth first.entry reader.old reader.new }
+    ensures err { NotJsonOnlyIfNoData result depth first.entry reader.old }
+    ensures shorter { LeavesNoMore result reader.old reader.new }
 {
     if let Token::Null = first {
         return Ok(Some(None));
@@ -327,9 +330,9 @@ fn type_refs<'a>(
     reader: &mut Reader<'a>,
     depth: usize,
 ) -> Result<Option<Vec<TypeRef>>, ReadError>
-    ensures ok { IfOk result (λ o. IsRead (λ xs. list_form (map (λ t. type_form (type_view t)) xs.items)) (is_list (is shape.type)) depth (token_of first.entry ∷ reader.old) reader.new o) }
-    ensures err { IsErrOf result ReadError.NotJson → data_of depth (token_of first.entry ∷ reader.old) ≡ None }
-    ensures shorter { OnOk result (length reader.new ≤ length reader.old) }
+    ensures ok { ReadsList result (λ t. type_form (type_view t)) (is shape.type) depth first.entry reader.old reader.new }
+    ensures err { NotJsonOnlyIfNoData result depth first.entry reader.old }
+    ensures shorter { LeavesNoMore result reader.old reader.new }
 {
     let Some(depth) = open_array(first, reader, depth)? else {
         return Ok(None);
