@@ -32,7 +32,8 @@ pub fn lowered_lines_read_back()
     ensures { (u : lowered.LoweredTree) → LoweredHasWords u → AreLines (lowered_lines u) (lowered_forms u) }
 {}
 
-/// The same holds for the texts of two lowered trees, one behind the other.
+/// Round trip: if each number of two lowered trees is below 2^64, then the texts that are written for them, one behind the other, are
+/// their lines.
 pub fn two_lowered_trees_read_back()
     ensures { (u v : lowered.LoweredTree) → LoweredHasWords u → LoweredHasWords v
         → AreLines (lowered_lines u ++ lowered_lines v) (lowered_forms u ++ lowered_forms v) }

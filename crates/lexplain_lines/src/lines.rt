@@ -2,7 +2,8 @@
 ghost use Rattle.std.specs.Prelude.{◌≡◌, ◌++◌, IfOk, OnOk, string_bytes};
 ghost use Rattle.lalrpop_norm_model.specs.Reading.{literal_terminal, terminal_of};
 ghost use Rattle.lalrpop_norm_explain.specs.Trees.{lowered_view, lowered_views, written_view, written_views};
-ghost use Rattle.lexplain_lines.specs.TreeLines.{text_json, terminal_json, leaf_line, node_line, written_lines, all_written_lines, lowered_lines, all_lowered_lines};
+ghost use Rattle.lexplain_lines.specs.TreeLines.{text_json, terminal_json, leaf_line, node_line};
+ghost use Rattle.lexplain_lines.specs.TreeLines.{written_lines, all_written_lines, lowered_lines, all_lowered_lines};
 
 use lalrpop_norm_explain::{LoweredTree, WrittenTree};
 use lalrpop_norm_tree_names::names::{NonterminalString, TerminalLiteral, TerminalString};
@@ -129,7 +130,8 @@ fn push_node(
     number: usize,
     count: usize,
 ) -> Result<(), AllocError>
-    ensures { OnOk result (string_bytes text.new ≡ string_bytes text.old ++ node_line fields.entry.name.now fields.entry.number.now name.now.0 number count) }
+    ensures { OnOk result (string_bytes text.new
+        ≡ string_bytes text.old ++ node_line fields.entry.name.now fields.entry.number.now name.now.0 number count) }
 {
     let field = fields.name;
     let number_field = fields.number;

@@ -88,7 +88,8 @@ pub(crate) fn take_lowered(
     trees: &mut Vec<LoweredTree>,
     line: LoweredLine,
 ) -> Result<(), LinesError>
-    ensures ok { OnOk result (all_lowered_forms (lowered_views trees.new.items) ≡ all_lowered_forms (lowered_views trees.old.items) ++ (lowered_line_form line ∷ [])) }
+    ensures ok { OnOk result (all_lowered_forms (lowered_views trees.new.items)
+        ≡ all_lowered_forms (lowered_views trees.old.items) ++ (lowered_line_form line ∷ [])) }
     ensures not { IsErrOf result LinesError.NotATree → length trees.old.items < lowered_line_children line }
 {
     let tree = match line {

@@ -75,7 +75,8 @@ pub fn two_lowered_trees_of_lines(
     lines: &str,
 ) -> Result<(LoweredTree, LoweredTree), LinesError>
     ensures ok { IfOk result (λ two. AreLines lines.now (lowered_forms (lowered_view two.0) ++ lowered_forms (lowered_view two.1))) }
-    ensures not { IsErrOf result LinesError.NotATree → (u v : lowered.LoweredTree) → AreLines lines.now (lowered_forms u ++ lowered_forms v) → ⊥ }
+    ensures not { IsErrOf result LinesError.NotATree →
+        (u v : lowered.LoweredTree) → AreLines lines.now (lowered_forms u ++ lowered_forms v) → ⊥ }
 {
     let trees = lowered_trees(alloc, lines)?;
     only_two(trees)

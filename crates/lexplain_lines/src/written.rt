@@ -83,7 +83,8 @@ fn node<'a>(
     reader: &mut Reader<'a>,
     depth: usize,
 ) -> Result<Option<WrittenLine>, ReadError>
-    ensures ok { IfOk result (λ o. IsReadUnder (codes "Node") written_line_form (fits written_line_shape) depth (token_of first.entry ∷ reader.old) reader.new o) }
+    ensures ok { IfOk result (λ o. IsReadUnder (codes "Node") written_line_form (fits written_line_shape) depth
+        (token_of first.entry ∷ reader.old) reader.new o) }
     ensures err { IsErrOf result ReadError.NotJson → data_of depth (token_of first.entry ∷ reader.old) ≡ None }
     ensures shorter { OnOk result (length reader.new ≤ length reader.old) }
 {
@@ -111,7 +112,8 @@ pub(crate) fn take_written(
     trees: &mut Vec<WrittenTree>,
     line: WrittenLine,
 ) -> Result<(), LinesError>
-    ensures ok { OnOk result (all_written_forms (written_views trees.new.items) ≡ all_written_forms (written_views trees.old.items) ++ (written_line_form line ∷ [])) }
+    ensures ok { OnOk result (all_written_forms (written_views trees.new.items)
+        ≡ all_written_forms (written_views trees.old.items) ++ (written_line_form line ∷ [])) }
     ensures not { IsErrOf result LinesError.NotATree → length trees.old.items < written_line_children line }
 {
     let tree = match line {

@@ -6,7 +6,7 @@ use Rattle.lalrpop_norm_theory.specs.Meaning.{Meaning, HasLevels}
 use Rattle.lalrpop_norm_theory.specs.WrittenTrees.{WrittenTree, WrittenTrees, leaf, nothing, list, node, no_trees, tree_and, IsTreeOf}
 use Rattle.lalrpop_norm_theory.specs.LoweredTrees.{LoweredTree, LoweredTrees, lowered_leaf, lowered_node, no_lowered, lowered_and}
 use Rattle.lalrpop_norm_theory.specs.Clauses.{Clause, clauses}
-use Rattle.lalrpop_norm_theory.specs.Pairs.{Pairs, AllPairs, terminal_pair, error_pair, wrapped_pair, lookahead_pair, lookbehind_pair, group_pair, rule_pair, step_pair, call_pair, star_empty_pair, star_some_pair, plus_one_pair, plus_more_pair, question_some_pair, question_empty_pair, times_pair, no_pairs, pair_and}
+use Rattle.lalrpop_norm_theory.specs.Pairs.{Pairs, AllPairs, wrapped_pair, group_pair, rule_pair, step_pair, call_pair, star_some_pair, plus_one_pair, plus_more_pair, question_some_pair, times_pair, no_pairs, pair_and}
 use Rattle.lalrpop_norm_theory.specs.Translations.{made_by}
 use Rattle.lalrpop_norm_theory.proofs.PairSides.{tree_of}
 use Rattle.lalrpop_norm_theory.proofs.PairTranslations.{lowered_to}
@@ -35,17 +35,12 @@ module _ (M : Meaning) (name : ClosedSymbol → Name) where
 
   mutual
     seen_again : {g : ClosedSymbol} {t : WrittenTree} {u : LoweredTree} → Pairs M name g t u → seen_as u g ≡ t
-    seen_again (terminal_pair a) = refl
-    seen_again error_pair = refl
     seen_again (wrapped_pair w g t u h) = seen_again h
-    seen_again lookahead_pair = refl
-    seen_again lookbehind_pair = refl
     seen_again (group_pair gs ts us h) = at_clause (group gs) 0 _ refl us ts (seen_each_again h)
     seen_again (rule_pair n k p b parts ts us e i h) = at_clause (reference n b) p _ i us ts (seen_each_again h)
     seen_again (step_pair n p b c t u e i h) =
         at_clause (reference n b) p _ i (lowered_and u no_lowered) (tree_and t no_trees) (ap (λ r. tree_and r no_trees) (seen_again h))
     seen_again (call_pair n k p args parts ts us e i h) = at_clause (call n args) p _ i us ts (seen_each_again h)
-    seen_again (star_empty_pair x) = refl
     seen_again (star_some_pair x ts u h) =
         at_clause (star x) 1 _ refl (lowered_and u no_lowered) (tree_and (list ts) no_trees) (ap (λ r. tree_and r no_trees) (seen_again h))
     seen_again (plus_one_pair x t u h) =
@@ -55,8 +50,8 @@ module _ (M : Meaning) (name : ClosedSymbol → Name) where
         (ap₂ (λ r s. tree_and r (tree_and s no_trees)) (seen_again h) (seen_again i))
     seen_again (question_some_pair x t u h) =
         at_clause (question x) 0 _ refl (lowered_and u no_lowered) (tree_and t no_trees) (ap (λ r. tree_and r no_trees) (seen_again h))
-    seen_again (question_empty_pair x) = refl
     seen_again (times_pair n x ts us h) = at_clause (times n x) 0 _ refl us ts (seen_each_again h)
+    seen_again _ = refl
 
     seen_each_again : {gs : ClosedSymbols} {ts : WrittenTrees} {us : LoweredTrees} → AllPairs M name gs ts us → seen_each us gs ≡ ts
     seen_each_again no_pairs = refl
@@ -92,22 +87,9 @@ module _ (M : Meaning) (name : ClosedSymbol → Name) where
   IsNamedBy _ u = Unit {0}
 
   root_named : {g : ClosedSymbol} {t : WrittenTree} {u : LoweredTree} → Pairs M name g t u → IsNamedBy g u
-  root_named (terminal_pair a) = tt
-  root_named error_pair = tt
-  root_named (wrapped_pair w g t u h) = tt
-  root_named lookahead_pair = tt
-  root_named lookbehind_pair = tt
-  root_named (group_pair gs ts us h) = tt
   root_named (rule_pair n k p b parts ts us e i h) = refl
   root_named (step_pair n p b c t u e i h) = refl
-  root_named (call_pair n k p args parts ts us e i h) = tt
-  root_named (star_empty_pair x) = tt
-  root_named (star_some_pair x ts u h) = tt
-  root_named (plus_one_pair x t u h) = tt
-  root_named (plus_more_pair x ts t v w h i) = tt
-  root_named (question_some_pair x t u h) = tt
-  root_named (question_empty_pair x) = tt
-  root_named (times_pair n x ts us h) = tt
+  root_named _ = tt
 
   pub one_name : (t r : WrittenTree) (u : LoweredTree) (n m : Name) → Pairs M name (reference n None) t u → Pairs M name (reference m None) r u →
       name (reference n None) ≡ name (reference m None)

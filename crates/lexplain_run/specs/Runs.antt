@@ -4,10 +4,10 @@ use Rattle.lalrpop_norm_tree.specs.Items.{GrammarData}
 use Rattle.lalrpop_norm_session.specs.Sessions.{features_view}
 use Rattle.lnorm_run.specs.Answers.{IsFormOf}
 use Rattle.lnorm_run.specs.Settings.{Settings}
-use Rattle.lnorm_streams.specs.Streams.{ReadsAll}
+use Rattle.lnorm_streams.specs.Streams.{ReadsAll, WritesFront}
 use Rattle.lexplain_run.specs.Answers.{IsTranslationOver}
 use Rattle.lexplain_run.specs.Refusals.{AreNoLines, StopsOver}
-use Rattle.lexplain_run.specs.Stops.{stop_status}
+use Rattle.lexplain_run.specs.Stops.{stop_line, stop_status}
 use Rattle.lexplain_run.specs.Words.{settings_asked}
 use Rattle.lexplain_run.specs.declared.answer.Stop.{Stop}
 use Rattle.lexplain_run.specs.declared.answer.Stop.TheVariants.{NotAGrammar, NotATree}
@@ -43,6 +43,19 @@ pub record IsStopped (asked : Asked) (grammar_old grammar_new lines_old lines_ne
   pub lines : List ℕ
   pub reads : ReadsBoth grammar_old grammar_new lines_old lines_new bytes lines
   pub says : StopsOverBytes asked.way (settings_asked asked) bytes lines stop
+
+-- a run ends at that stop: both were read whole, and the line of the stop, or a beginning of it, was written
+abbrev pub EndsAtStop : Asked → Option (List ℕ) → Option (List ℕ) → Option (List ℕ) → Option (List ℕ) →
+    Option (List ℕ) → Option (List ℕ) → Stop → Type 0
+EndsAtStop asked grammar_old grammar_new lines_old lines_new faults_old faults_new stop =
+    IsStopped asked grammar_old grammar_new lines_old lines_new stop × WritesFront faults_old faults_new (stop_line stop)
+
+-- the bytes of the grammar are the form of none, or those of the lines are no tree's
+abbrev pub EndsWithoutTrees : Asked → Option (List ℕ) → Option (List ℕ) → Option (List ℕ) → Option (List ℕ) →
+    Option (List ℕ) → Option (List ℕ) → Type 0
+EndsWithoutTrees asked grammar_old grammar_new lines_old lines_new faults_old faults_new =
+    EndsAtStop asked grammar_old grammar_new lines_old lines_new faults_old faults_new NotAGrammar
+    ⊎ EndsAtStop asked grammar_old grammar_new lines_old lines_new faults_old faults_new NotATree
 
 -- what a failure says of them: a failed allocation and a failed read say nothing
 abbrev pub FailsAt : Asked → Option (List ℕ) → Option (List ℕ) → Option (List ℕ) → Option (List ℕ) → Failure → Type 0

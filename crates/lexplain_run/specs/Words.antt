@@ -1,6 +1,7 @@
 -- What the arguments ask for.
 use Rattle.std.specs.Prelude.{◌≡◌, ℕ, List, ◌∷◌, Some, false, codes}
 use Rattle.lalrpop_norm_session.specs.Sessions.{features_view}
+use Rattle.lalrpop_norm_session.specs.declared.session.Session.{Session}
 use Rattle.lalrpop_norm_model.specs.Features.{Features}
 use Rattle.lnorm_run.specs.Settings.{Settings, settings_of}
 use Rattle.lexplain_run.specs.declared.words.Way.{Way}
@@ -17,8 +18,12 @@ word_of Ambiguous = codes "ambiguous"
 abbrev pub settings_with : Features → ℕ → Settings
 settings_with fs limit = record { limit = limit; features = fs; origins = false }
 
+-- those of a session
+abbrev pub settings_in : {L : Type 0} → Session L → Settings
+settings_in session = settings_with (features_view session.features) session.macro_recursion_limit
+
 abbrev pub settings_asked : Asked → Settings
-settings_asked a = settings_with (features_view a.session.features) a.session.macro_recursion_limit
+settings_asked a = settings_in a.session
 
 -- the arguments are the name of the way, the name of the file, and options that ask for these settings
 pub record AsksForWay (words : List (List ℕ)) (way : Way) (file : List ℕ) (s : Settings) : Type 0 where

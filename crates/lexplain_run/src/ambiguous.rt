@@ -6,7 +6,7 @@ ghost use Rattle.lalrpop_norm_explain.specs.Trees.{lowered_view, written_view};
 ghost use Rattle.lexplain_run.specs.Answers.{ShowsAmbiguity};
 ghost use Rattle.lexplain_run.specs.Refusals.{StopsShowing};
 ghost use Rattle.lexplain_run.specs.Witnesses.{difference_line, more_text, numbers_text, readings_text};
-ghost use Rattle.lexplain_run.specs.Words.{settings_with};
+ghost use Rattle.lexplain_run.specs.Words.{settings_in};
 
 use crate::answer::Stop;
 use lalrpop_norm::explain::LoweredTree;
@@ -29,8 +29,10 @@ pub fn ambiguous(
     first: &LoweredTree,
     second: &LoweredTree,
 ) -> Result<String, Stop>
-    ensures ok { IfOk result (λ text. ShowsAmbiguity (features_view session.now.features) (grammar_view grammar) (lowered_view first.now) (lowered_view second.now) (string_bytes text)) }
-    ensures err { IfErr result (StopsShowing (settings_with (features_view session.now.features) session.now.macro_recursion_limit) (grammar_view grammar) (lowered_view first.now) (lowered_view second.now)) }
+    ensures ok { IfOk result (λ text. ShowsAmbiguity (features_view session.now.features) (grammar_view grammar)
+        (lowered_view first.now) (lowered_view second.now) (string_bytes text)) }
+    ensures err { IfErr result (StopsShowing (settings_in session.now) (grammar_view grammar)
+        (lowered_view first.now) (lowered_view second.now)) }
 {
     let traced = normalize_traced(alloc, session, grammar)?;
     let readings = ambiguity(alloc, &traced, first, second)?;
@@ -39,7 +41,8 @@ pub fn ambiguous(
 
 /// The lines of both trees, and that of the path.
 fn readings_lines(alloc: Global, readings: &TwoReadings) -> Result<String, AllocError>
-    ensures { IfOk result (λ text. string_bytes text ≡ readings_text (written_view readings.now.first) (written_view readings.now.second) readings.now.path.items) }
+    ensures { IfOk result (λ text. string_bytes text
+        ≡ readings_text (written_view readings.now.first) (written_view readings.now.second) readings.now.path.items) }
 {
     let mut text = written_lines(alloc, &readings.first)?;
     let second = written_lines(alloc, &readings.second)?;

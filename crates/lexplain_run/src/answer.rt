@@ -9,7 +9,7 @@ ghost use Rattle.lnorm_run.specs.Settings.{Settings};
 ghost use Rattle.lexplain_run.specs.Answers.{ExplainsTree, IsTranslationOver, LowersTree};
 ghost use Rattle.lexplain_run.specs.Refusals.{StopsExplaining, StopsLowering, StopsOver};
 ghost use Rattle.lexplain_run.specs.Runs.{StopsOverBytes};
-ghost use Rattle.lexplain_run.specs.Words.{settings_asked, settings_with};
+ghost use Rattle.lexplain_run.specs.Words.{settings_asked, settings_in};
 ghost use Rattle.lexplain_run.specs.declared.words.Way.{Way};
 ghost use Rattle.lexplain_run.specs.declared.answer.Stop.TheVariants.{NotATree, Failed};
 
@@ -89,7 +89,8 @@ impl From<AmbiguityError> for Stop {
 /// allocation.
 pub fn answer(alloc: Global, asked: &Asked, grammar: &str, lines: &str) -> Result<String, Stop>
     // The text is right for the grammar whose form the first text is, and the tree, or the two, whose lines the second one is.
-    ensures ok { IfOk result (λ text. IsTranslationOver asked.now.way (features_view asked.now.session.features) grammar.now lines.now (string_bytes text)) }
+    ensures ok { IfOk result (λ text. IsTranslationOver asked.now.way (features_view asked.now.session.features)
+        grammar.now lines.now (string_bytes text)) }
     // That a text is none is said only where it is; else a fault is that of the grammar, or of the trees in it.
     ensures err { IfErr result (StopsOver asked.now.way (settings_asked asked.now) grammar.now lines.now) }
 {
@@ -146,8 +147,9 @@ pub fn explained(
     grammar: Grammar,
     tree: &LoweredTree,
 ) -> Result<String, Stop>
-    ensures ok { IfOk result (λ text. ExplainsTree (features_view session.now.features) (grammar_view grammar) (lowered_view tree.now) (string_bytes text)) }
-    ensures err { IfErr result (StopsExplaining (settings_with (features_view session.now.features) session.now.macro_recursion_limit) (grammar_view grammar) (lowered_view tree.now)) }
+    ensures ok { IfOk result (λ text. ExplainsTree (features_view session.now.features) (grammar_view grammar)
+        (lowered_view tree.now) (string_bytes text)) }
+    ensures err { IfErr result (StopsExplaining (settings_in session.now) (grammar_view grammar) (lowered_view tree.now)) }
 {
     let traced = normalize_traced(alloc, session, grammar)?;
     let written = explain(alloc, &traced, tree)?;
@@ -163,8 +165,9 @@ pub fn lowered(
     grammar: Grammar,
     tree: &WrittenTree,
 ) -> Result<String, Stop>
-    ensures ok { IfOk result (λ text. LowersTree (features_view session.now.features) (grammar_view grammar) (written_view tree.now) (string_bytes text)) }
-    ensures err { IfErr result (StopsLowering (settings_with (features_view session.now.features) session.now.macro_recursion_limit) (grammar_view grammar) (written_view tree.now)) }
+    ensures ok { IfOk result (λ text. LowersTree (features_view session.now.features) (grammar_view grammar)
+        (written_view tree.now) (string_bytes text)) }
+    ensures err { IfErr result (StopsLowering (settings_in session.now) (grammar_view grammar) (written_view tree.now)) }
 {
     let traced = normalize_traced(alloc, session, grammar)?;
     let derivation = lower_tree(alloc, &traced, tree)?;

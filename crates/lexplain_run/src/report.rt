@@ -2,7 +2,8 @@
 ghost use Rattle.std.specs.Io.KnownBytes.{Appends};
 ghost use Rattle.std.specs.Prelude.{◌≡◌, ◌++◌, IsTrue, codes, decimal};
 ghost use Rattle.lnorm_streams.specs.Streams.{WritesFront, lexplain_memory_line};
-ghost use Rattle.lexplain_run.specs.Stops.{child_path_text, places_text, stop_line, stop_status, tree_fault_line, unshown_line, unshown_status};
+ghost use Rattle.lexplain_run.specs.Stops.{child_path_text, places_text, tree_fault_line};
+ghost use Rattle.lexplain_run.specs.Stops.{stop_line, stop_status, unshown_line, unshown_status};
 
 use crate::answer::Stop;
 use itoa::Buffer;

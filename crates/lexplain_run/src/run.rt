@@ -1,18 +1,19 @@
 //! The engine of the program, over streams.
 ghost use Rattle.std.specs.Prelude.{◌≡◌, ◌≤◌, ◌<◌, ◌⊎◌, ℕ, List, IfOk, IfErr, IsErrOf, IsUtf8, string_bytes};
-ghost use Rattle.std.specs.Io.KnownBytes.{Appends, Keeps};
+ghost use Rattle.std.specs.Io.KnownBytes.{Keeps};
 ghost use Rattle.lalrpop_norm_faults.specs.declared.failure.NormFailure.TheVariants.{Memory};
 ghost use Rattle.lalrpop_norm_session.specs.Sessions.{features_view};
 ghost use Rattle.lnorm_run.specs.Settings.{Settings};
 ghost use Rattle.lnorm_streams.specs.Sources.{FailedSince};
+ghost use Rattle.lnorm_streams.specs.Ends.{EndsAtStream, EndsWell};
 ghost use Rattle.lnorm_streams.specs.Streams.{WritesFront, lexplain_memory_line, lexplain_stream_line};
 ghost use Rattle.lexplain_run.specs.Answers.{IsTranslationOver};
-ghost use Rattle.lexplain_run.specs.Runs.{FailsAt, IsStopped, IsTranslated, StopsOverBytes};
-ghost use Rattle.lexplain_run.specs.Stops.{stop_line, stop_status};
+ghost use Rattle.lexplain_run.specs.Runs.{EndsAtStop, EndsWithoutTrees, FailsAt, IsTranslated, StopsOverBytes};
+ghost use Rattle.lexplain_run.specs.Stops.{stop_status};
 ghost use Rattle.lexplain_run.specs.Words.{settings_asked};
 ghost use Rattle.lexplain_run.specs.declared.words.Way.{Way};
 ghost use Rattle.lexplain_run.specs.declared.answer.Stop.{Stop};
-ghost use Rattle.lexplain_run.specs.declared.answer.Stop.TheVariants.{Failed, NotAGrammar, NotATree};
+ghost use Rattle.lexplain_run.specs.declared.answer.Stop.TheVariants.{Failed};
 ghost use Rattle.lexplain_run.specs.declared.run.Failure.TheVariants.{Input, Stopped};
 
 use crate::answer::{Stop, answer, grammar_in};
@@ -49,30 +50,23 @@ pub fn translate<G: Source, L: Source, W: Write, E: Write>(
     faults: &mut E,
 ) -> u8
     // Well ended: both inputs were read whole, and the whole right text was written.
-    ensures done { result ≡ 0 → (text : List ℕ)
-        × IsTranslated asked.now (G.remaining grammar.old) (G.remaining grammar.new) (L.remaining lines.old) (L.remaining lines.new) text
-        × Appends (W.contents output.old) (W.contents output.new) text
-        × Keeps (E.contents faults.old) (E.contents faults.new) }
+    ensures done { result ≡ 0 → EndsWell
+        (IsTranslated asked.now (G.remaining grammar.old) (G.remaining grammar.new) (L.remaining lines.old) (L.remaining lines.new))
+        (W.contents output.old) (W.contents output.new) (E.contents faults.old) (E.contents faults.new) }
     // Rejected: the stop says a fault of the grammar that may be reported, the first fault of the tree, or what is wrong with the two.
-    ensures fault { result ≡ 1 → (stop : Stop) × (stop_status stop ≡ 1)
-        × IsStopped asked.now (G.remaining grammar.old) (G.remaining grammar.new) (L.remaining lines.old) (L.remaining lines.new) stop
-        × WritesFront (E.contents faults.old) (E.contents faults.new) (stop_line stop) }
+    ensures fault { result ≡ 1 → (stop : Stop) × (stop_status stop ≡ 1) × EndsAtStop asked.now (G.remaining grammar.old)
+        (G.remaining grammar.new) (L.remaining lines.old) (L.remaining lines.new) (E.contents faults.old) (E.contents faults.new) stop }
     // The bytes of the grammar are the form of none, or those of the lines are no tree's.
-    ensures refused { result ≡ 2 →
-        (IsStopped asked.now (G.remaining grammar.old) (G.remaining grammar.new) (L.remaining lines.old) (L.remaining lines.new) NotAGrammar
-        × WritesFront (E.contents faults.old) (E.contents faults.new) (stop_line NotAGrammar))
-        ⊎ (IsStopped asked.now (G.remaining grammar.old) (G.remaining grammar.new) (L.remaining lines.old) (L.remaining lines.new) NotATree
-        × WritesFront (E.contents faults.old) (E.contents faults.new) (stop_line NotATree)) }
+    ensures refused { result ≡ 2 → EndsWithoutTrees asked.now (G.remaining grammar.old) (G.remaining grammar.new)
+        (L.remaining lines.old) (L.remaining lines.new) (E.contents faults.old) (E.contents faults.new) }
     ensures memory { result ≡ 3 → WritesFront (E.contents faults.old) (E.contents faults.new) lexplain_memory_line }
     // A stream failed: nothing was written, or a beginning of the right text.
-    ensures stream { result ≡ 4 →
-        WritesFront (E.contents faults.old) (E.contents faults.new) lexplain_stream_line
-        × (Keeps (W.contents output.old) (W.contents output.new)
-        ⊎ ((text : List ℕ)
-        × IsTranslated asked.now (G.remaining grammar.old) (G.remaining grammar.new) (L.remaining lines.old) (L.remaining lines.new) text
-        × WritesFront (W.contents output.old) (W.contents output.new) text)) }
+    ensures stream { result ≡ 4 → EndsAtStream
+        (IsTranslated asked.now (G.remaining grammar.old) (G.remaining grammar.new) (L.remaining lines.old) (L.remaining lines.new))
+        lexplain_stream_line (W.contents output.old) (W.contents output.new) (E.contents faults.old) (E.contents faults.new) }
     // A read of either input failed: that is reported, and nothing was written.
-    ensures failed_read { FailedSince (G.has_failed grammar.old) (G.has_failed grammar.new) ⊎ FailedSince (L.has_failed lines.old) (L.has_failed lines.new) →
+    ensures failed_read { FailedSince (G.has_failed grammar.old) (G.has_failed grammar.new)
+        ⊎ FailedSince (L.has_failed lines.old) (L.has_failed lines.new) →
         (result ≡ 4) × Keeps (W.contents output.old) (W.contents output.new) }
     ensures quiet { 0 < result → result < 4 → Keeps (W.contents output.old) (W.contents output.new) }
     ensures status { result ≤ 4 }
@@ -101,8 +95,8 @@ fn translation<G: Source, L: Source>(
         (L.remaining lines.old) (L.remaining lines.new) (string_bytes text)) }
     ensures err { IfErr result (FailsAt asked.now (G.remaining grammar.old) (G.remaining grammar.new)
         (L.remaining lines.old) (L.remaining lines.new)) }
-    ensures failed_read { FailedSince (G.has_failed grammar.old) (G.has_failed grammar.new) ⊎ FailedSince (L.has_failed lines.old) (L.has_failed lines.new) →
-        IsErrOf result Input }
+    ensures failed_read { FailedSince (G.has_failed grammar.old) (G.has_failed grammar.new)
+        ⊎ FailedSince (L.has_failed lines.old) (L.has_failed lines.new) → IsErrOf result Input }
 {
     let bytes = match read_whole(alloc, grammar) {
         Ok(bytes) => bytes,

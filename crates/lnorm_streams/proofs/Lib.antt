@@ -1,4 +1,3 @@
-pub mod CharLemmas
 pub mod FrontLemmas
 pub mod LineLemmas
 pub mod MessageLemmas

@@ -1,3 +1,4 @@
 pub mod Sources
 pub mod Streams
 pub mod Told
+pub mod Ends

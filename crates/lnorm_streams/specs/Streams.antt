@@ -47,7 +47,7 @@ memory_line = codes "lnorm: out of memory\n"
 unfoldable pub stream_line : List ℕ
 stream_line = codes "lnorm: input or output failed\n"
 
--- the same of `lexplain`
+-- the lines of `lexplain`
 unfoldable pub lexplain_usage_line : List ℕ
 lexplain_usage_line = codes "lexplain: usage: lexplain explain|lower|ambiguous GRAMMAR [--limit N] [--feature F]..., or lexplain grammar GRAMMAR [--limit N] [--feature F]... [--origins]\n"
 

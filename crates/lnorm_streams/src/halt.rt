@@ -1,16 +1,16 @@
 //! Why a run ends without its text, and its exit status and line.
 ghost use Rattle.std.specs.IoError.{error_kind};
 ghost use Rattle.std.specs.Io.KnownBytes.{Appends};
-ghost use Rattle.std.specs.Prelude.{◌≡◌, ◌≢◌, ◌++◌, IsTrue, OnOk, codes, decimal, string_bytes};
-ghost use Rattle.lnorm_streams.specs.Streams.{WritesFront, fault_line, one_line, span_text, usage_line_of, no_tree_line_of, memory_line_of, stream_line_of};
+ghost use Rattle.std.specs.Prelude.{◌≡◌, ◌≢◌, ◌++◌, IsTrue, codes, decimal, string_bytes};
+ghost use Rattle.lnorm_streams.specs.Streams.{WritesFront, fault_line, one_line, span_text};
+ghost use Rattle.lnorm_streams.specs.Streams.{usage_line_of, no_tree_line_of, memory_line_of, stream_line_of};
 ghost use Rattle.lnorm_streams.specs.Told.{status_of, LineOf};
 
-use crate::message::{push_message, write_message};
+use crate::message::write_message;
 use crate::streams::{write_both, write_whole};
 use itoa::Buffer;
 use lalrpop_norm_faults::{NormError, NormFailure};
 use lalrpop_norm_tree_names::names::Span;
-use std::alloc::AllocError;
 use std::io::{self, ErrorKind, Write};
 
 /// The program that runs: its name stands in front of the lines that are no fault's.
@@ -80,19 +80,6 @@ pub fn report<E: Write>(program: Program, halt: Halt, faults: &mut E) -> u8
             4
         }
     }
-}
-
-/// Puts the line of a fault behind a text.
-pub fn push_fault_line(text: &mut String, error: &NormError) -> Result<(), AllocError>
-    ensures { OnOk result (string_bytes text.new ≡ string_bytes text.old
-        ++ fault_line error.now.fault error.now.span (string_bytes error.now.message)) }
-{
-    let code = error.fault.code();
-    let from = error.span.0;
-    let to = error.span.1;
-    write!(text, "{code} {from}..{to}: ")?;
-    push_message(text, error.message.as_str())?;
-    text.push_str("\n")
 }
 
 /// Writes a text, or a beginning of it.

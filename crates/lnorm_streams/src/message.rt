@@ -1,10 +1,9 @@
 //! The message of a fault, as it is written in a line.
 ghost use Rattle.std.specs.Io.KnownBytes.{Appends};
-ghost use Rattle.std.specs.Prelude.{◌≡◌, [], ◌∷◌, ◌++◌, MatchOption, IsTrue, OnOk, encode_utf8, string_bytes};
+ghost use Rattle.std.specs.Prelude.{◌≡◌, [], ◌∷◌, ◌++◌, MatchOption, IsTrue};
 ghost use Rattle.lnorm_streams.specs.Streams.{WritesFront, in_line, one_line};
 
 use crate::streams::write_whole;
-use std::alloc::AllocError;
 use std::io::Write;
 
 /// Writes a message as it is written in a line, piece by piece, and says whether all of it was written. Else a beginning was.
@@ -41,25 +40,4 @@ fn write_marked<W: Write>(writer: &mut W, piece: &[u8], mark: &str) -> bool
     ensures whole { IsTrue result → Appends (W.contents writer.old) (W.contents writer.new) (piece.now ++ mark.now) }
 {
     write_whole(writer, piece) && write_whole(writer, mark.as_bytes())
-}
-
-/// Puts a message behind a text, as it is written in a line.
-pub fn push_message(text: &mut String, message: &str) -> Result<(), AllocError>
-    ensures { OnOk result (string_bytes text.new ≡ string_bytes text.old ++ one_line message.now) }
-{
-    for c in message.chars() {
-        push_in_line(text, c)?;
-    }
-    Ok(())
-}
-
-/// Puts a character of a message behind a text, as it is written in a line.
-fn push_in_line(text: &mut String, c: char) -> Result<(), AllocError>
-    ensures { OnOk result (string_bytes text.new ≡ string_bytes text.old ++ one_line (encode_utf8 c)) }
-{
-    match c {
-        '\n' => text.push_str("\\n"),
-        '\r' => text.push_str("\\r"),
-        _ => text.push(c),
-    }
 }
