@@ -22,13 +22,14 @@ from itertools import zip_longest
 sys.dont_write_bytecode = True
 from wanted_back import NoTree, Refusal, Unshown, explained, lowered_back, readings_lines, shown_lines, tree_of_lines, two_trees_of_lines
 from wanted_cuts import cut_faults, cut_reads, cut_writes
-from wanted_forms import Refused, Unknown, canonical, names_text, one, place, terminal, tree_text, type_text
-from wanted_lowered import Lowered, origin_word, source_name
+from wanted_forms import Refused, Unknown, canonical, clause, literal, names_text, one, pattern, place, terminal, type_text, visibility
+from wanted_lowered import Lowered, origin_word
 from wanted_patterns import is_found, is_pattern
-from wanted_shapes import beginnings, cut_trees, debug_tree, readings, tree_of
+from wanted_shapes import beginnings, cut_trees, debug, debug_tokenizer, debug_tree, readings, tree_of
 from wanted_tokens import (KNOWN_ATTRIBUTES, CheckOnly, NoMemory, Scripted, blocks_of, check_tokens, extern_enum, inner_symbols, is_expanded,
                            item_parts, named_terminals, symbols_under, terminals_used)
 from wanted_types import LOOKAROUNDS, Types, sources, text_of
+from wanted_values import table_text, values_text
 from wanted_written import braces, check_levels, check_written, first_of, first_pair, malformed_cfgs
 
 
@@ -57,21 +58,32 @@ def is_active(values, features):
 
 
 def asked_attributes(values, features):
-    pairs = [first_pair(a) for a in values]
-    return ("  on" if is_active(values, features) else "  off") + "".join(" %s=%s" % p for p in pairs if p) + "\n"
+    pairs = ("Some((%s, %s))" % tuple(debug("text", part) for part in pair) if pair else "None" for pair in map(first_pair, values))
+    return "  on: %s%s\n" % (truth(is_active(values, features)), "".join(" " + pair for pair in pairs))
+
+
+def truth(value):
+    return str(value).lower()
+
+
+def presence(code):
+    """The class of the first `<>` of an action code, and whether it is just between braces."""
+    return ", <> %s, in braces: %s" % ({None: "None", "plain": "Normal", "{}": "InCurlyBrackets"}[braces(code)], truth(braces(code) == "{}"))
+
+
+def presence_in(action):
+    code = one(action)[1] if action else None
+    return presence(code) if code is not None else ""
 
 
 def asked_alternative(value, features):
-    text = "    " + place(value["span"])
     if value["action"]:
-        name, code = one(value["action"])
-        text += {None: " code", "plain": " code <>", "{}": " code {<>}"}[braces(code)] if code is not None else " lookaround"
+        gives = "User(%s)" % debug("Code", value["action"])
     else:
         named, parts = sources(value["expr"]["symbols"])
-        text += " named" if named else " anonymous"
-        for i, name, s in parts:
-            text += " %d%s %s" % (i, " " + source_name(name) if named else "", place(s["span"]))
-    return text + asked_attributes(value["attributes"], features)
+        shown = ["(%d, %s%s)" % (i, debug("ArgPattern", dict([name])) + ", " if named else "", debug("Symbol", s)) for i, name, s in parts]
+        gives = "Default(%s([%s]))" % ("Named" if named else "Anon", ", ".join(shown))
+    return "    %s %s%s%s" % (place(value["span"]), gives, presence_in(value["action"]), asked_attributes(value["attributes"], features))
 
 
 def level_numbers(rule):
@@ -110,11 +122,11 @@ def has_levels(rule):
 
 
 def asked_rule(rule, features):
-    text = "rule " + rule["name"] + (" public" if rule["visibility"] != "Priv" else "") + (" macro" if rule["args"] else "")
+    text = "  rule %s, public: %s, macro: %s" % (rule["name"], truth(rule["visibility"] != "Priv"), truth(bool(rule["args"])))
+    text += ", on with no feature: " + truth(is_active(rule["attributes"], set()))
     if rule["type_decl"] is not None:
-        text += " of a symbol" if "OfSymbol" in json.dumps(rule["type_decl"]) else ": " + type_text(rule["type_decl"])
-    text += (" levels" if has_levels(rule) else "") + asked_levels(rule)
-    text += asked_attributes(rule["attributes"], features)
+        text += ", type of a symbol" if "OfSymbol" in json.dumps(rule["type_decl"]) else ", type: " + type_text(rule["type_decl"])
+    text += ", levels: %s%s\n" % (truth(has_levels(rule)), asked_levels(rule)) + asked_attributes(rule["attributes"], features)
     return text + "".join(asked_alternative(a, features) for a in rule["alternatives"])
 
 
@@ -126,40 +138,125 @@ def length(value):
     return len(text.encode()) + (0 if name == "Quoted" else 5)
 
 
-def asked(tree, features):
-    enum, tokenizers = extern_enum(tree), blocks_of(tree, "InternToken")
-    text = "".join("first match %s\n" % place(b["span"]) for b in blocks_of(tree, "MatchToken")[:1])
-    text += "".join("first extern %s\n" % place(b["span"]) for b in blocks_of(tree, "ExternToken")[:1])
-    text += "first enum %s\n" % place(enum["type_span"]) if enum else ""
-    text += ("tokenizer\n" if tokenizers else "") + asked_attributes(tree["attributes"], features)
-    for name, content in map(one, tree["items"]):
-        if name in ("MatchToken", "InternToken"):
-            text += "match %s\n" % place(content["span"]) if name == "MatchToken" else "tokenizer\n"
-        elif name == "ExternToken":
-            types = {t["type_name"]: type_text(t["type_ref"]) for t in reversed(content["associated_types"])}
-            text += "extern" + "".join(" %s=%s" % (n, types[n]) for n in ("Location", "Error") if n in types) + "\n"
-            for c in (content["enum_token"] or {"conversions": []})["conversions"]:
-                text += "  %s length %d" % (terminal(c["from"]), length(c["from"]))
-                if one(c["from"])[0] == "Literal":
-                    text += " precedence %d" % (one(one(c["from"])[1])[0] == "Quoted")
-                text += "\n"
-        elif name == "Nonterminal":
-            text += ("macro " if content["args"] else "") + asked_rule(content, features)
+def first_blocks(tree):
+    found = [("match", "MatchToken", blocks_of(tree, "MatchToken")), ("extern", "ExternToken", blocks_of(tree, "ExternToken")),
+             ("enum", "EnumToken", [extern_enum(tree)])]
+    text = "".join("first %s: %s\n" % (word, debug(shape + "?", next(iter(blocks), None))) for word, shape, blocks in found)
+    return text + "tokenizer: %s\n" % shown_tokenizer(next(iter(blocks_of(tree, "InternToken")), None))
+
+
+def shown_tokenizer(block):
+    return "Some(%s)" % debug_tokenizer(block) if block else "None"
+
+
+def asked_extern(block):
+    text = ""
+    for word, name in (("location", "Location"), ("error", "Error")):
+        found = next((t for t in block["associated_types"] if t["type_name"] == name), None)
+        text += "  %s: %s\n" % (word, debug("AssociatedType?", found))
+    for c in (block["enum_token"] or {"conversions": []})["conversions"]:
+        text += "  %s of length %d" % (terminal(c["from"]), length(c["from"]))
+        if one(c["from"])[0] == "Literal":
+            text += ", precedence %d" % (one(one(c["from"])[1])[0] == "Quoted")
+        text += "\n"
     return text
 
 
-def texts_of(tree):
-    text = "copy equal true, with another span unequal %s\n" % str(tree["span"] != [0, 1]).lower()
+def asked(tree, features):
+    text = first_blocks(tree) + asked_attributes(tree["attributes"], features)
+    for name, content in map(one, tree["items"]):
+        is_macro = name == "Nonterminal" and bool(content["args"])
+        block = content if name == "MatchToken" else None
+        text += "item, macro: %s\n  match: %s\n" % (truth(is_macro), debug("MatchToken?", block))
+        text += "  tokenizer: %s\n" % shown_tokenizer(content if name == "InternToken" else None)
+        if name == "ExternToken":
+            text += asked_extern(content)
+        elif name == "Nonterminal":
+            text += asked_rule(content, features)
+    return text
+
+
+def algorithms(tree):
+    """What each attribute of a grammar asks for, if it is known."""
+    text = ""
     for a in tree["attributes"]:
         code = {"recursive_ascent": "RecursiveAscent", "test_all": "TestAll"}.get(a["id"], "TableDriven")
         if a["id"] in KNOWN_ATTRIBUTES:
-            text += "Algorithm { lalr: %s, codegen: %s }\n" % (str(a["id"] == "LALR").lower(), code)
+            text += "Algorithm { lalr: %s, codegen: %s }\n" % (truth(a["id"] == "LALR"), code)
+    return text
+
+
+def single_name(ty):
+    """The name that the path of a type is, if it is one part and not absolute."""
+    (absolute, names) = ty[1]
+    return names[0] if not absolute and len(names) == 1 else None
+
+
+def rule_without_memory(rule, ty, features):
+    name = rule["name"]
+    text = "rule %s of length %d, public: %s" % (name, len(name.encode()), truth(rule["visibility"] != "Priv"))
+    text += ", macro: %s, levels: %s, type %s" % (truth(bool(rule["args"])), truth(has_levels(rule)), text_of(ty))
+    text += " of the name " + debug("text?", single_name(ty)) if ty[0] == "Nominal" else ""
+    text += asked_attributes(rule["attributes"], features)
+    quoted, regex = literal({"Quoted": name}), literal({"Regex": name})
+    text += "   %s equal true %s Some(%s) %s %s %s mut %s ()\n" % (name, name, quoted, quoted, regex, name, name)
+    return text + "".join("   action%s %s\n" % (presence_in(a["action"]), place(a["span"])) for a in rule["alternatives"])
+
+
+def without_memory(tree, features):
+    """What calls without memory answer, of the resolved tree and of its types."""
+    resolve(tree)
+    types = Types(tree).infer()
+    text = first_blocks(tree) + algorithms(tree)
+    for name, content in map(one, tree["items"]):
+        if name == "ExternToken":
+            text += asked_extern(content)
+        elif name == "Nonterminal":
+            text += rule_without_memory(content, types.known[content["name"]], features)
+    text += "expanded: %s, typed: %s\n" % (truth(is_expanded(tree)), truth(is_typed(tree, features)))
+    text += "action 22, fault F36, side none, error of the unit type: false\n"
+    remove_disabled(tree, features)
+    return text + "%d items are on\n" % len(tree["items"])
+
+
+def copies_of(tree):
+    """The parts that are copied by themselves, in order: each copy is equal."""
+    parts = []
+    for name, content in map(one, tree["items"]):
+        if name == "ExternToken":
+            for c in (content["enum_token"] or {"conversions": []})["conversions"]:
+                kind, inside = one(c["to"]["kind"])
+                parts += ["kind of a pattern"] + ["field of a pattern"] * (len(inside[1]) if kind == "Struct" else 0)
+        elif name == "Nonterminal":
+            parts += ["attribute", "argument of an attribute"] * len(content["attributes"])
+            kinds = (one(s["kind"])[0] for a in content["alternatives"] for s in a["expr"]["symbols"])
+            parts += [{"Macro": "call", "Repeat": "repeat"}[kind] for kind in kinds if kind in ("Macro", "Repeat")]
+    return "".join("%s copied: true\n" % part for part in parts + ["refusal of a pattern", "refusal of a side"])
+
+
+def texts_of(tree):
+    text = "copy equal true, with another span unequal %s\n" % truth(tree["span"] != [0, 1]) + algorithms(tree)
+    text += "".join("type parameter %s\n" % one(p)[1] for p in tree["type_parameters"])
+    text += "".join("parameter of type %s\n" % type_text(p["ty"]) for p in tree["parameters"])
+    text += "".join("where %s\n" % clause(c) for c in tree["where_clauses"])
     for name, content in map(one, tree["items"]):
         if name == "MatchToken":
             text += "".join("item %s\n" % place(item_parts(i)[2]) for g in content["contents"] for i in g["items"])
+        elif name == "ExternToken":
+            text += extern_texts(content)
         elif name == "Nonterminal":
+            declared = ": " + type_text(content["type_decl"]) if content["type_decl"] is not None else ""
+            text += visibility(content["visibility"]) + "rule" + declared + "\n"
             text += "several levels\n" if has_several(content) else ""
             text += "".join(map(symbol_texts, (s for a in content["alternatives"] for s in a["expr"]["symbols"])))
+    return text
+
+
+def extern_texts(block):
+    text = "".join("associated type %s\n" % type_text(t["type_ref"]) for t in block["associated_types"])
+    if block["enum_token"]:
+        text += "enum %s\n" % type_text(block["enum_token"]["type_name"])
+        text += "".join("pattern %s\n" % pattern(c["to"]) for c in block["enum_token"]["conversions"])
     return text
 
 
@@ -458,18 +555,7 @@ def expand_macros(tree, limit):
 # ---- types
 
 def types_text(tree):
-    types = Types(tree).infer()
-    text = types.text()
-    for name, content in map(one, tree["items"]):
-        named = []
-        if name == "ExternToken" and content["enum_token"]:
-            named = [c["from"] for c in content["enum_token"]["conversions"]]
-        elif name == "InternToken":
-            named = named_terminals([e["user_name"] for e in content["match_entries"]])
-        elif name == "Nonterminal":
-            text += "rule %s: %s\n" % (content["name"], text_of(types.known[content["name"]]))
-        text += "".join("terminal %s: %s\n" % (terminal(t), types.terminal_text(t)) for t in named)
-    return text
+    return table_text(Types(tree).infer())
 
 
 def is_typed(tree, features):
@@ -554,7 +640,7 @@ def counted(tree, limit):
     """How much an expansion did, and the tree is expanded. Each rule that is made has one text."""
     resolve(tree)
     rules, rounds = expand_macros(tree, limit)
-    return "instances %d, rounds %d, texts %d\n" % (rules, rounds, rules)
+    return "Counts { instances: %d, rounds: %d, texts: %d }\n" % (rules, rounds, rules)
 
 
 def origins_text(tree):
@@ -563,13 +649,12 @@ def origins_text(tree):
     return "".join("origins:%s\n" % "".join(" [%s]" % origin_word(o) for o in origins) for origins in lists)
 
 
-def expanded_traced(tree, features, limit, whole):
+def expanded_traced(tree, features, limit):
     """The tree of `expand_macros` after `remove_disabled_decls`, and the origins of its alternatives."""
     mark_origins(tree)
     remove_disabled(tree, features)
     run_pass("expand_macros", tree, features, limit)
-    origins = origins_text(tree)
-    return (debug_tree(tree) if whole else tree_text(tree)) + origins
+    return debug_tree(tree) + origins_text(tree)
 
 
 def lowered_alone(tree, features):
@@ -625,7 +710,7 @@ def counts_of(data):
 
 PASSES = ("read", "validate", "check_globals", "remove_disabled_decls", "resolve", "expand_levels", "expand_precedence",
           "expand_macros", "token_check")
-LAST = ("token_check_scripted", "infer_types", "normalize", "lowered_copy", "copy", "lower", "is_typed", "ask", "texts",
+LAST = ("token_check_scripted", "infer_types", "normalize", "lowered_copy", "values", "copy", "copies", "lower", "is_typed", "ask", "texts",
         "normalize_scripted", "without_memory", "expand_macros_counted", "expand_macros_traced",
         "malformed_cfgs", "traced")
 BACK = ("explain", "explain_at", "lower_tree", "there_and_back", "ambiguous")
@@ -652,12 +737,10 @@ def back_answer(data, beside, call, words):
 
 
 def passes_answer(data, call, words):
-    whole, words = words[:1] == ("whole",), words[1:] if words[:1] in (("whole",), ("twice",)) else words
+    words = words[1:] if words[:1] == ("twice",) else words
     *first, last = call.split(",")
     if not set(first) <= set(PASSES) or last not in PASSES + LAST:
         return "no such call\n"
-    if last == "without_memory":
-        raise Unknown
     lexer = Scripted(words) if last in ("token_check_scripted", "normalize_scripted") else CheckOnly()
     features, limit, _ = settings(() if isinstance(lexer, Scripted) else words)
     tree = tree_of(data)
@@ -665,11 +748,9 @@ def passes_answer(data, call, words):
         return "not a tree\n"
     for one_pass in first:
         run_pass(one_pass, tree, features, limit)
-    if whole and last == "infer_types":
-        raise Unknown
-    if last in ("normalize", "normalize_scripted", "lowered_copy", "traced"):
+    if last in ("normalize", "normalize_scripted", "lowered_copy", "values", "traced"):
         lowered = normalized(tree, features, limit, lexer)
-        return {"lowered_copy": lowered.copied, "traced": lowered.traced}.get(last, lowered.json)()
+        return values_text(lowered) if last == "values" else {"lowered_copy": lowered.copied, "traced": lowered.traced}.get(last, lowered.json)()
     if last == "lower":
         resolve(tree)
         return lowered_alone(tree, features)
@@ -678,17 +759,19 @@ def passes_answer(data, call, words):
         text = types_text(tree)
         return text if last == "infer_types" else "typed: %s\n" % str(is_typed(tree, features)).lower()
     if last == "malformed_cfgs":
-        return "malformed:%s\n" % "".join(" " + p for p in malformed_cfgs(tree))
+        return "malformed: [%s]\n" % ", ".join("Span(%s)" % p.replace("..", ", ") for p in malformed_cfgs(tree))
     if last == "expand_macros_traced":
-        return expanded_traced(tree, features, limit, whole)
-    if last in ("ask", "texts"):
-        return asked(tree, features) if last == "ask" else texts_of(tree)
+        return expanded_traced(tree, features, limit)
+    looks = {"ask": lambda: asked(tree, features), "texts": lambda: texts_of(tree), "copies": lambda: copies_of(tree),
+             "without_memory": lambda: without_memory(tree, features)}
+    if last in looks:
+        return looks[last]()
     told = counted(tree, limit) if last == "expand_macros_counted" else ""
     if not told:
         run_pass(last, tree, features, limit, lexer)
     if last in ("validate", "check_globals"):
         return "ok\n"
-    return told + (debug_tree(tree) if whole else tree_text(tree))
+    return told + debug_tree(tree)
 
 
 def contents(data, name):
@@ -704,8 +787,6 @@ def answer(data, name, call, *words):
     except OSError:
         return "no file\n"
     try:
-        if call in ("values", "copies"):
-            raise Unknown
         cuts = {"cut_reads": cut_reads, "cut_writes": cut_writes, "cut_faults": cut_faults}
         if call in cuts:
             return cuts[call](lines_of, content, words)
@@ -759,7 +840,7 @@ def difference(want, got):
 
 def main():
     data, others = sys.argv[1], sys.argv[2:]
-    got = answers_of(open(others[1], encoding="utf-8").read()) if others else {}
+    got = answers_of(open(others[1], encoding="utf-8", newline="").read()) if others else {}
     same = unknown = 0
     differ = []
     for line in sys.stdin.read().splitlines():

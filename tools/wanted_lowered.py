@@ -144,7 +144,7 @@ def symbol_of(value):
 
 def symbol_text(symbol):
     is_terminal, name = symbol
-    return terminal(name, False) if is_terminal else name
+    return terminal(name) if is_terminal else name
 
 
 def symbol_data(symbol):
@@ -296,10 +296,11 @@ class Lowered:
         text = json_line(data, None) + "parameters %s, and %d type\n" % (", ".join(names), count)
         for name in ("S", "U"):
             made = [shown for shown, _ in self.found[name][3]] if name in self.found else []
-            text += "productions of %s [%s]\n" % (name, ", ".join(made))
+            ty = "Some(%s)" % text_of(self.found[name][1]) if name in self.found else "None"
+            text += "productions of %s of type %s: [%s]\n" % (name, ty, ", ".join(made))
         conversions = conversions_of(self.tree)
         text += "%d terminals with a number\n" % (len({str(t) for t, _ in conversions}) + self.recovers)
-        text += "".join("pattern of %s: %s\n" % (terminal(t, marked=False), pattern(p)) for t, p in conversions)
+        text += "".join("pattern of %s: %s\n" % (terminal(t), pattern(p)) for t, p in conversions)
         failing = [" %d" % n for n, action in enumerate(self.actions) if action["fallible"]]
         return text + "actions that may fail" + "".join(failing) + "\n"
 

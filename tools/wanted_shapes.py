@@ -206,7 +206,7 @@ SHOWN = {
     "number": str,
     "short": str,
     "Span": lambda v: "Span(%d, %d)" % tuple(v),
-    "Terminal": lambda v: terminal(v, False),
+    "Terminal": lambda v: terminal(v),
     "Literal": literal,
     "Mapping": lambda v: mapping(v)[4:],
 }

@@ -209,18 +209,6 @@ class Types:
             if name == "Tuple":
                 self.check_names(content, part, inside)
 
-    # ---- as they are printed
-
-    def text(self):
-        text = "token: %s\n" % text_of(self.token)
-        text += "location: %s\n" % text_of(self.location) if self.location else ""
-        faults = text_of(self.of_fault("ErrorRecovery")), text_of(self.of_fault("ParseError"))
-        return text + "recovery: %s\nparse error: %s\n" % faults
-
-    def terminal_text(self, value):
-        """In a table of types."""
-        return text_of(self.terminals[key(value)]) if key(value) in self.terminals else "token"
-
 
 def is_default(value):
     return value["action"] is None and not sources(value["expr"]["symbols"])[0]

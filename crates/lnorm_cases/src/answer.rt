@@ -1,20 +1,16 @@
 //! The answer to a call.
-use crate::asks::push_no_feature;
 use crate::back::push_back;
 use crate::call::{Call, Last, Pass, call_of};
-use crate::copies::push_copies;
 use crate::cuts::{push_cut_faults, push_cut_reads, push_cut_writes};
 use crate::library_call::push_counts_of;
 use crate::outcome::{Layout, PassCall, push_outcome};
 use crate::readings::twice::{push_beginnings, push_read_twice};
-use crate::runs::{push_cut_trees, push_run, push_whole_run};
+use crate::runs::{push_cut_trees, push_run};
 use crate::scripted::scripted_session;
-use crate::shown::push_or_memory;
 use lalrpop_norm::normalize::Session;
 use lalrpop_norm_lexer::lexer::{CheckOnly, Lexer};
 use lnorm_run::words::{WordsError, asked_by};
 pub use lnorm_texts::text::Text;
-use lnorm_texts::values::push_values;
 use std::alloc::Global;
 
 /// Writes the answer to a call, with its arguments, on the tree that the bytes are; `beside` is what the file holds that is named
@@ -44,8 +40,8 @@ fn push_called(
     beside: &[u8],
 ) {
     match call {
-        Call::Lnorm => push_run(alloc, text, words, bytes),
-        Call::Grammar => push_whole_run(alloc, text, words, bytes),
+        Call::Lnorm => push_run(alloc, text, words, bytes, false),
+        Call::Grammar => push_run(alloc, text, words, bytes, true),
         Call::Library => push_counts_of(alloc, text, bytes),
         Call::CutReads => push_cut_reads(alloc, text, words, bytes),
         Call::CutWrites => push_cut_writes(alloc, text, words, bytes),
@@ -53,8 +49,6 @@ fn push_called(
         Call::CutTrees => push_cut_trees(alloc, text, words, bytes),
         Call::ReadTwice => push_read_twice(alloc, text, bytes),
         Call::Beginnings => push_beginnings(alloc, text, bytes),
-        Call::Values => push_or_memory(text, |text| push_made(alloc, text)),
-        Call::Copies => push_or_memory(text, |text| push_copies(alloc, text)),
         Call::Back(back) => push_back(alloc, text, *back, words, bytes, beside),
         Call::Passes(passes, last) => push_passes(alloc, text, passes, *last, words, bytes),
     }
@@ -78,20 +72,13 @@ fn push_passes(
     push_passed(alloc, text, &call, words, bytes);
 }
 
-/// The form that the first argument names, and the other arguments; lines and all arguments, if it names none.
+/// The form that the first argument names, and the other arguments; and all arguments, if it names none.
 fn layout_of(words: &[String]) -> (Layout, &[String]) {
     match words {
-        [first, rest @ ..] if first.as_str() == "whole" => (Layout::Whole, rest),
         [first, rest @ ..] if first.as_str() == "told" => (Layout::Told, rest),
         [first, rest @ ..] if first.as_str() == "twice" => (Layout::Twice, rest),
-        _ => (Layout::Lines, words),
+        _ => (Layout::Plain, words),
     }
-}
-
-/// Values that no tree holds.
-fn push_made(alloc: Global, text: &mut Text) {
-    push_values(alloc, text);
-    push_no_feature(alloc, text);
 }
 
 /// What the passes come to, in the session of the arguments: where the lexer is described, that is all that they do.

@@ -55,21 +55,23 @@ fn answered(
     }
     let traced = normalize_traced(alloc, session, grammar)?;
     match back {
-        Back::Explain => explained(alloc, &traced, lines),
-        Back::ExplainAt => explained_anywhere(alloc, &traced, lines),
         Back::LowerTree => lowered(alloc, &traced, lines),
-        Back::ThereAndBack | Back::Ambiguous => there_and_back(alloc, &traced, lines),
+        _ => from_lowered(alloc, back, &traced, lines),
     }
 }
 
-fn explained(alloc: Global, traced: &Traced, lines: &[u8]) -> Result<String, Stop> {
-    let tree = read(lowered_tree_of_lines(alloc, text_of(lines)?))?;
-    written_lines_of(alloc, explain(alloc, traced, &tree))
+fn lowered(alloc: Global, traced: &Traced, lines: &[u8]) -> Result<String, Stop> {
+    let tree = read(written_tree_of_lines(alloc, text_of(lines)?))?;
+    lines_of(alloc, lower_tree(alloc, traced, &tree))
 }
 
-fn explained_anywhere(alloc: Global, traced: &Traced, lines: &[u8]) -> Result<String, Stop> {
+fn from_lowered(alloc: Global, back: Back, traced: &Traced, lines: &[u8]) -> Result<String, Stop> {
     let tree = read(lowered_tree_of_lines(alloc, text_of(lines)?))?;
-    written_lines_of(alloc, explain_at(alloc, traced, &tree))
+    match back {
+        Back::ExplainAt => written_lines_of(alloc, explain_at(alloc, traced, &tree)),
+        Back::ThereAndBack => there_and_back(alloc, traced, explain(alloc, traced, &tree)),
+        _ => written_lines_of(alloc, explain(alloc, traced, &tree)),
+    }
 }
 
 fn written_lines_of(
@@ -82,15 +84,13 @@ fn written_lines_of(
     }
 }
 
-fn lowered(alloc: Global, traced: &Traced, lines: &[u8]) -> Result<String, Stop> {
-    let tree = read(written_tree_of_lines(alloc, text_of(lines)?))?;
-    lines_of(alloc, lower_tree(alloc, traced, &tree))
-}
-
-fn there_and_back(alloc: Global, traced: &Traced, lines: &[u8]) -> Result<String, Stop> {
-    let tree = read(lowered_tree_of_lines(alloc, text_of(lines)?))?;
-    match explain(alloc, traced, &tree) {
-        Ok(written) => lines_of(alloc, lower_tree(alloc, traced, &written)),
+fn there_and_back(
+    alloc: Global,
+    traced: &Traced,
+    written: Result<WrittenTree, ExplainError>,
+) -> Result<String, Stop> {
+    match written {
+        Ok(tree) => lines_of(alloc, lower_tree(alloc, traced, &tree)),
         Err(error) => Err(Stop::Tree(error)),
     }
 }

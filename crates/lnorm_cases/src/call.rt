@@ -22,10 +22,6 @@ pub(crate) enum Call {
     ReadTwice,
     /// What they make of its beginnings.
     Beginnings,
-    /// Values that no tree holds.
-    Values,
-    /// Copies of parts that no copy of a tree makes by themselves.
-    Copies,
     /// What the way back makes of the tree beside the grammar.
     Back(Back),
     /// Passes one after another, and what is asked for the tree then.
@@ -112,10 +108,14 @@ pub(crate) enum Last {
     Ask,
     /// Texts of the tree's parts.
     Texts,
+    /// Copies of parts that no copy of a tree makes by themselves.
+    Copies,
     /// `malformed_cfgs`: where a `cfg` is of no known form.
     MalformedCfgs,
     /// The copy of the lowered grammar.
     LoweredCopy,
+    /// What that copy is asked for that no pass asks, and values that no grammar holds.
+    Values,
     /// What calls answer that allocate nothing.
     WithoutMemory,
 }
@@ -130,8 +130,6 @@ pub(crate) fn call_of(alloc: Global, name: &str) -> Result<Option<Call>, AllocEr
         "cut_writes" => Ok(Some(Call::CutWrites)),
         "cut_faults" => Ok(Some(Call::CutFaults)),
         "cut_trees" => Ok(Some(Call::CutTrees)),
-        "values" => Ok(Some(Call::Values)),
-        "copies" => Ok(Some(Call::Copies)),
         "explain" => Ok(Some(Call::Back(Back::Explain))),
         "explain_at" => Ok(Some(Call::Back(Back::ExplainAt))),
         "lower_tree" => Ok(Some(Call::Back(Back::LowerTree))),
@@ -173,6 +171,7 @@ fn last_of(name: &str) -> Option<Last> {
         "normalize" => Some(Last::Normalize),
         "traced" => Some(Last::Traced),
         "lowered_copy" => Some(Last::LoweredCopy),
+        "values" => Some(Last::Values),
         _ => look_of(name),
     }
 }
@@ -182,6 +181,7 @@ fn look_of(name: &str) -> Option<Last> {
         "copy" => Some(Last::Copy),
         "ask" => Some(Last::Ask),
         "texts" => Some(Last::Texts),
+        "copies" => Some(Last::Copies),
         "malformed_cfgs" => Some(Last::MalformedCfgs),
         "without_memory" => Some(Last::WithoutMemory),
         _ => match pass_of(name) {

@@ -1,141 +1,89 @@
 //! Copies of parts that no copy of a tree makes by themselves.
 use lalrpop_norm_lexer::lexer::RegexError;
 use lalrpop_norm_precedence::precedence::Assoc;
-use lalrpop_norm_repr::grammar::repr::NominalTypeRepr;
 use lalrpop_norm_tree::grammar::parse_tree::{
-    Attribute, AttributeArg, MacroSymbol, NoMemory, NonterminalString, Path, RepeatOp,
-    RepeatSymbol, Span, Symbol, SymbolKind,
+    Conversion, Grammar, GrammarItem, MacroSymbol, NoMemory, NonterminalData, RepeatSymbol, Symbol,
+    SymbolKind, TypeRef,
 };
-use lalrpop_norm_tree::grammar::pattern::{FieldPattern, Pattern, PatternKind};
-use lnorm_texts::made::{atom, both, list_of_one, made_of, push_shown, string};
+use lalrpop_norm_tree::grammar::pattern::PatternKind;
+use lnorm_texts::made::{show_made, string};
 use lnorm_texts::text::Text;
-use shared_text::Atom;
 use std::alloc::Global;
 
-/// Of each kind a line, which says whether the copy is equal.
-pub(crate) fn push_copies(alloc: Global, text: &mut Text) {
-    push_is_copied(text, "attribute", is_copied(level(alloc)));
-    push_is_copied(text, "argument of an attribute", is_copied(argument(alloc)));
-    push_is_copied(text, "call", is_copied(call(alloc)));
-    push_is_copied(text, "repeat", is_copied(repeat(alloc)));
-    push_is_copied(text, "nominal type", is_copied(nominal(alloc)));
-    push_is_copied(
-        text,
-        "kind of a pattern",
-        made_of(kind(alloc), is_kind_copied),
-    );
-    push_is_copied(
-        text,
-        "field of a pattern",
-        made_of(field(alloc), is_field_copied),
-    );
-    push_is_copied(text, "refusal of a pattern", is_copied(refusal(alloc)));
-    push_is_copied(text, "refusal of a side", is_side_refusal_copied());
-}
-
-fn push_is_copied(text: &mut Text, name: &str, is_copied: Result<bool, NoMemory>) {
-    text.put(name);
-    push_shown(text, " copied ", is_copied, "\n");
-}
-
-/// Whether a copy of the value that was made is equal to it.
-fn is_copied<T: Clone + PartialEq + Drop>(made: Result<T, NoMemory>) -> Result<bool, NoMemory> {
-    made_of(made, |value| is_equal_to_copy(value))
-}
-
-fn is_equal_to_copy<T: Clone + PartialEq + Drop>(value: &T) -> Result<bool, NoMemory> {
-    let copy = value.clone()?;
-    Ok(copy == *value)
-}
-
-fn is_kind_copied(kind: &PatternKind<Atom>) -> Result<bool, NoMemory> {
-    made_of(kind.clone(), |copy| Ok(*copy == *kind))
-}
-
-fn is_field_copied(field: &FieldPattern<Atom>) -> Result<bool, NoMemory> {
-    made_of(field.clone(), |copy| Ok(*copy == *field))
-}
-
-fn is_side_refusal_copied() -> Result<bool, NoMemory> {
-    match "both".parse::<Assoc>() {
-        Ok(_) => Ok(false),
-        Err(refusal) => is_equal_to_copy(&refusal),
+/// Of each such part of the tree, and of two errors, a line, which says whether the copy is equal.
+pub(crate) fn push_copies(alloc: Global, text: &mut Text, tree: &Grammar) {
+    for item in &tree.items {
+        if let Some(block) = item.as_extern_token() {
+            if let Some(tokens) = &block.enum_token {
+                push_conversions(text, &tokens.conversions);
+            }
+        }
+        if let Some(rule) = item.as_nonterminal() {
+            push_rule(text, rule);
+        }
+    }
+    show_made(text, refusal(alloc), |text, refusal| {
+        push_copied(text, "refusal of a pattern", refusal);
+    });
+    if let Err(refusal) = "both".parse::<Assoc>() {
+        push_copied(text, "refusal of a side", &refusal);
     }
 }
 
-// ---- values
-
-/// `level = "1"`
-fn level(alloc: Global) -> Result<Attribute, NoMemory> {
-    let (id, value) = both(atom(alloc, "level"), string(alloc, "1"))?;
-    Ok(Attribute {
-        id_span: Span(12, 17),
-        id,
-        arg: AttributeArg::Equal(value),
-    })
+/// Whether a copy of the value is equal to it.
+fn push_copied<T: Clone + PartialEq + Drop>(text: &mut Text, name: &str, value: &T) {
+    push_is_equal(text, name, value.clone(), value);
 }
 
-/// `(level = "1")`
-fn argument(alloc: Global) -> Result<AttributeArg, NoMemory> {
-    Ok(AttributeArg::Paren(list_of_one(alloc, level(alloc))?))
+/// Whether the copy that was made of the value is equal to it.
+fn push_is_equal<T: PartialEq + Drop, E: Drop>(
+    text: &mut Text,
+    name: &str,
+    made: Result<T, E>,
+    value: &T,
+) {
+    text.put(name);
+    match made {
+        Ok(copy) => text.show_line(" copied: ", copy == *value),
+        Err(_) => text.lack(),
+    }
 }
 
-/// `Id<E>`
-fn call(alloc: Global) -> Result<MacroSymbol, NoMemory> {
-    let (name, args) = both(atom(alloc, "Id"), list_of_one(alloc, reference(alloc)))?;
-    Ok(MacroSymbol {
-        name: NonterminalString(name),
-        args,
-    })
+fn push_conversions(text: &mut Text, conversions: &[Conversion]) {
+    for conversion in conversions {
+        push_kind(text, &conversion.to.kind);
+    }
 }
 
-/// `E*`
-fn repeat(alloc: Global) -> Result<RepeatSymbol, NoMemory> {
-    Ok(RepeatSymbol {
-        op: RepeatOp::Star,
-        symbol: reference(alloc)?,
-    })
+/// What a pattern is, and the fields of one.
+fn push_kind(text: &mut Text, kind: &PatternKind<TypeRef>) {
+    push_is_equal(text, "kind of a pattern", kind.clone(), kind);
+    if let PatternKind::Struct(_, fields, _) = kind {
+        for field in fields {
+            push_is_equal(text, "field of a pattern", field.clone(), field);
+        }
+    }
 }
 
-/// `E`
-fn reference(alloc: Global) -> Result<Symbol, NoMemory> {
-    let name = NonterminalString(atom(alloc, "E")?);
-    Ok(Symbol::new(Span(3, 4), SymbolKind::Nonterminal(name)))
+/// The attributes of the rule, and the calls and repeats among its symbols.
+fn push_rule(text: &mut Text, rule: &NonterminalData) {
+    for attribute in &rule.attributes {
+        push_copied(text, "attribute", attribute);
+        push_copied(text, "argument of an attribute", &attribute.arg);
+    }
+    for alternative in &rule.alternatives {
+        push_symbols(text, &alternative.expr.symbols);
+    }
 }
 
-/// `Vec`
-fn nominal(alloc: Global) -> Result<NominalTypeRepr, NoMemory> {
-    Ok(NominalTypeRepr {
-        path: path(alloc)?,
-        types: Vec::new(alloc),
-    })
-}
-
-fn path(alloc: Global) -> Result<Path, NoMemory> {
-    Path::from_id(alloc, atom(alloc, "Vec")?)
-}
-
-/// `(ab)`
-fn kind(alloc: Global) -> Result<PatternKind<Atom>, NoMemory> {
-    Ok(PatternKind::Tuple(list_of_one(alloc, chosen(alloc))?))
-}
-
-/// `f: ab`
-fn field(alloc: Global) -> Result<FieldPattern<Atom>, NoMemory> {
-    let (field_name, pattern) = both(atom(alloc, "f"), chosen(alloc))?;
-    Ok(FieldPattern {
-        field_span: Span(3, 8),
-        field_name,
-        pattern,
-    })
-}
-
-/// `ab`
-fn chosen(alloc: Global) -> Result<Pattern<Atom>, NoMemory> {
-    Ok(Pattern {
-        span: Span(6, 8),
-        kind: PatternKind::Choose(atom(alloc, "ab")?),
-    })
+fn push_symbols(text: &mut Text, symbols: &[Symbol]) {
+    for symbol in symbols {
+        match &symbol.kind {
+            SymbolKind::Macro(call) => push_copied::<MacroSymbol>(text, "call", call),
+            SymbolKind::Repeat(repeat) => push_copied::<RepeatSymbol>(text, "repeat", repeat),
+            _ => {}
+        }
+    }
 }
 
 fn refusal(alloc: Global) -> Result<RegexError, NoMemory> {

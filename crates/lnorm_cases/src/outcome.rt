@@ -2,9 +2,10 @@
 use crate::asks::push_asked;
 use crate::back::push_traced;
 use crate::call::{Last, Pass};
-use crate::lowered::{push_lowered, push_lowered_copy};
+use crate::copies::push_copies;
+use crate::lowered::push_lowered;
 use crate::passes::{Stopped, expanded_with_origins, is_run, tree_after, tree_after_all, typed};
-use crate::shown::{ended, push_apart, push_or, push_or_memory};
+use crate::shown::{ended, push_apart, push_or_memory};
 use crate::without_memory::push_without_memory;
 use lalrpop_norm::grammar::repr;
 use lalrpop_norm::normalize::lower::{is_typed, lower};
@@ -14,15 +15,14 @@ use lalrpop_norm::normalize::{
 };
 use lalrpop_norm_json::{TreeError, read_tree};
 use lalrpop_norm_lexer::lexer::Lexer;
-use lalrpop_norm_macro_expand::macro_expand::{Counts, expand_macros_counted};
+use lalrpop_norm_macro_expand::macro_expand::expand_macros_counted;
 use lalrpop_norm_origins::Origin;
-use lalrpop_norm_repr::grammar::repr::Types;
-use lalrpop_norm_tree::grammar::parse_tree::{Grammar, Span};
+use lalrpop_norm_tree::grammar::parse_tree::Grammar;
 use lnorm_run::lines::push_origin;
 use lnorm_texts::faults::push_told;
-use lnorm_texts::print::symbols::{push_span, push_span_line};
-use lnorm_texts::print::tables::{push_types, push_whole_types};
-use lnorm_texts::print::trees::{push_tree, push_whole_tree};
+use lnorm_texts::made::push_debug_line;
+use lnorm_texts::spans::push_span_line;
+use lnorm_texts::tables::push_types;
 use lnorm_texts::text::Text;
 use lnorm_texts::texts::push_texts;
 use std::alloc::Global;
@@ -30,13 +30,11 @@ use std::alloc::Global;
 /// How an outcome is printed.
 #[derive(Clone, Copy)]
 pub(crate) enum Layout {
-    /// In lines.
-    Lines,
-    /// The value as its `Debug` has it; a lowered grammar as in lines.
-    Whole,
-    /// In lines, a fault with its message.
+    /// A value by its `Debug` or in lines, a fault by its number and its span.
+    Plain,
+    /// Likewise, but a fault with its message.
     Told,
-    /// In lines, and those of a second call in the same session.
+    /// Likewise, and that of a second call in the same session.
     Twice,
 }
 
@@ -119,32 +117,26 @@ fn push_last<L: Lexer>(
         Last::ExpandMacrosTraced => push_expanded(alloc, text, session, layout, tree),
         Last::InferTypes | Last::IsTyped => push_typed(alloc, text, session, layout, last, tree),
         Last::Lower => push_lower(alloc, text, session, layout, tree),
-        Last::Normalize | Last::NormalizeScripted | Last::LoweredCopy => {
+        Last::Normalize | Last::NormalizeScripted | Last::LoweredCopy | Last::Values => {
             push_lowered_of(alloc, text, layout, last, normalize(alloc, session, tree));
         }
         Last::Traced => push_kept(alloc, text, session, layout, tree),
         Last::WithoutMemory => push_without_memory(alloc, text, session, tree),
-        Last::Copy | Last::Ask | Last::Texts | Last::MalformedCfgs => {
-            push_look(alloc, text, session, layout, last, &tree);
+        Last::Copy | Last::Ask | Last::Texts | Last::Copies | Last::MalformedCfgs => {
+            push_or_memory(text, |text| push_look(alloc, text, session, last, &tree));
             ended(tree);
         }
     }
 }
 
 /// What looks at the tree answer.
-fn push_look<L>(
-    alloc: Global,
-    text: &mut Text,
-    session: &Session<L>,
-    layout: Layout,
-    last: Last,
-    tree: &Grammar,
-) {
+fn push_look<L>(alloc: Global, text: &mut Text, session: &Session<L>, last: Last, tree: &Grammar) {
     match last {
         Last::Ask => push_asked(alloc, text, session, tree),
-        Last::Texts => push_or_memory(text, |text| push_texts(alloc, text, tree)),
-        Last::MalformedCfgs => push_malformed(alloc, text, tree),
-        _ => push_copy(text, layout, tree),
+        Last::Texts => push_texts(alloc, text, tree),
+        Last::Copies => push_copies(alloc, text, tree),
+        Last::MalformedCfgs => push_debug_line(text, "malformed: ", malformed_cfgs(alloc, tree)),
+        _ => push_debug_line(text, "", tree.clone()),
     }
 }
 
@@ -158,27 +150,24 @@ fn push_pass<L: Lexer>(
 ) {
     if is_run(pass, &tree) {
         let made = tree_after(alloc, session, pass, tree);
-        push_result_of(text, layout, made, |text, tree| {
-            push_tree_after(text, layout, pass, tree)
-        });
+        push_result_of(
+            text,
+            layout,
+            made,
+            |text, tree| push_tree_after(text, pass, tree),
+        );
     } else {
         text.put("not expanded\n");
         ended(tree);
     }
 }
 
-fn push_tree_after(text: &mut Text, layout: Layout, pass: Pass, tree: &Grammar) {
+/// A pass that only looks for faults has no tree of its own.
+fn push_tree_after(text: &mut Text, pass: Pass, tree: &Grammar) {
     if pass.only_looks() {
         text.put("ok\n");
     } else {
-        push_tree_as(text, layout, tree);
-    }
-}
-
-fn push_tree_as(text: &mut Text, layout: Layout, tree: &Grammar) {
-    match layout {
-        Layout::Lines | Layout::Told | Layout::Twice => push_tree(text, tree),
-        Layout::Whole => push_whole_tree(text, tree),
+        text.debug_line("", tree);
     }
 }
 
@@ -192,21 +181,10 @@ fn push_counted<L>(
 ) {
     let limit = session.macro_recursion_limit;
     let made = expand_macros_counted(alloc, tree, limit);
-    push_result_of(text, layout, made, |text, made| {
-        push_counts(text, layout, made)
+    push_result_of(text, layout, made, |text, (tree, counts)| {
+        text.debug_line("", counts);
+        text.debug_line("", tree);
     });
-}
-
-fn push_counts(text: &mut Text, layout: Layout, made: &(Grammar, Counts)) {
-    let (tree, counts) = made;
-    text.put("instances ");
-    text.show(counts.instances);
-    text.put(", rounds ");
-    text.show(counts.rounds);
-    text.put(", texts ");
-    text.show(counts.texts);
-    text.put("\n");
-    push_tree_as(text, layout, tree);
 }
 
 /// The tree after an expansion, and a line for each rule: the origins of its alternatives.
@@ -220,7 +198,7 @@ fn push_expanded<L>(
     let made = expanded_with_origins(alloc, session, tree);
     push_result_of(text, layout, made, |text, made| {
         let (tree, lists) = made;
-        push_tree_as(text, layout, tree);
+        text.debug_line("", tree);
         for list in lists {
             push_origins(alloc, text, list);
         }
@@ -248,27 +226,12 @@ fn push_typed<L>(
 ) {
     let made = typed(alloc, tree);
     push_result_of(text, layout, made, |text, (tree, types)| {
-        push_types_of(text, session, layout, last, tree, types)
-    });
-}
-
-fn push_types_of<L>(
-    text: &mut Text,
-    session: &Session<L>,
-    layout: Layout,
-    last: Last,
-    tree: &Grammar,
-    types: &Types,
-) {
-    match (last, layout) {
-        (Last::IsTyped, _) => {
-            text.put("typed: ");
-            text.show(is_typed(session, tree, types));
-            text.put("\n");
+        if let Last::IsTyped = last {
+            text.show_line("typed: ", is_typed(session, tree, types));
+        } else {
+            push_types(text, types);
         }
-        (_, Layout::Whole) => push_whole_types(text, types),
-        _ => push_types(text, tree, types),
-    }
+    });
 }
 
 /// The tree with its names resolved, lowered over the types of its rules, where both are what `lower` takes.
@@ -298,17 +261,8 @@ fn push_lowered_of(
     made: NormResult<repr::Grammar>,
 ) {
     push_result_of(text, layout, made, |text, lowered| {
-        push_lowered_as(alloc, text, last, lowered)
+        push_or_memory(text, |text| push_lowered(alloc, text, last, lowered))
     });
-}
-
-fn push_lowered_as(alloc: Global, text: &mut Text, last: Last, lowered: &repr::Grammar) {
-    match last {
-        Last::LoweredCopy => push_or_memory(text, |text| {
-            push_lowered_copy(alloc, text, lowered)
-        }),
-        _ => push_or_memory(text, |text| push_lowered(alloc, text, lowered)),
-    }
 }
 
 /// The lowered grammar, with where its productions come from.
@@ -325,33 +279,6 @@ fn push_kept<L: Lexer>(
     });
 }
 
-fn push_copy(text: &mut Text, layout: Layout, tree: &Grammar) {
-    push_or(
-        text,
-        tree.clone(),
-        |text, copy| push_tree_as(text, layout, copy),
-        "memory\n",
-    );
-}
-
-/// The spans of the `cfg` that are of no known form.
-fn push_malformed(alloc: Global, text: &mut Text, tree: &Grammar) {
-    push_or(
-        text,
-        malformed_cfgs(alloc, tree),
-        |text, spans| push_spans(text, spans),
-        "memory\n",
-    );
-}
-
-fn push_spans(text: &mut Text, spans: &Vec<Span>) {
-    text.put("malformed:");
-    for span in spans {
-        push_span(text, *span);
-    }
-    text.put("\n");
-}
-
 /// Why there is no answer.
 fn push_reason(text: &mut Text, layout: Layout, stopped: &Stopped) {
     match stopped {
@@ -364,7 +291,7 @@ fn push_reason(text: &mut Text, layout: Layout, stopped: &Stopped) {
 fn push_failure(text: &mut Text, layout: Layout, failure: &NormFailure) {
     match layout {
         Layout::Told => push_told(text, failure),
-        Layout::Lines | Layout::Whole | Layout::Twice => push_place(text, failure),
+        Layout::Plain | Layout::Twice => push_place(text, failure),
     }
 }
 

@@ -12,21 +12,23 @@ const WHOLE: Printing = Printing {
     afterwards: Afterwards::LetGo,
 };
 
-/// What `lnorm` writes on both streams, and its exit status.
-pub(crate) fn push_run(alloc: Global, text: &mut Text, words: &[String], bytes: &[u8]) {
+/// What `lnorm` writes on both streams, and its exit status; or what `lexplain grammar` does, with the options behind the grammar's
+/// name.
+pub(crate) fn push_run(
+    alloc: Global,
+    text: &mut Text,
+    words: &[String],
+    bytes: &[u8],
+    is_whole: bool,
+) {
     let mut input = bytes;
     let mut output = Vec::new(alloc);
     let mut faults = Vec::new(alloc);
-    let status = run(alloc, words, &mut input, &mut output, &mut faults);
-    push_ended(text, status, &output, &faults);
-}
-
-/// What `lexplain grammar` writes on both streams, with the options behind the grammar's name, and its exit status.
-pub(crate) fn push_whole_run(alloc: Global, text: &mut Text, words: &[String], bytes: &[u8]) {
-    let mut input = bytes;
-    let mut output = Vec::new(alloc);
-    let mut faults = Vec::new(alloc);
-    let status = run_with(alloc, words, &mut input, &mut output, &mut faults, WHOLE);
+    let status = if is_whole {
+        run_with(alloc, words, &mut input, &mut output, &mut faults, WHOLE)
+    } else {
+        run(alloc, words, &mut input, &mut output, &mut faults)
+    };
     push_ended(text, status, &output, &faults);
 }
 

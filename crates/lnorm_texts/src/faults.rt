@@ -1,6 +1,6 @@
 //! Errors with their messages, and associativities of alternatives.
 use crate::made::{cloned, show_made};
-use crate::print::symbols::push_span;
+use crate::spans::push_span;
 use crate::text::Text;
 use lalrpop_norm_faults::{FaultKind, NormFailure, refusal};
 use lalrpop_norm_lower_steps::refusals::too_many_actions;
@@ -8,21 +8,12 @@ use lalrpop_norm_precedence::precedence::Assoc;
 use lalrpop_norm_tree::grammar::parse_tree::Span;
 use std::alloc::{AllocError, Global};
 
-/// An error with its message, one for whose message an allocation failed, and copies of both; and the error that no tree can
-/// show.
+/// An error with its message, one for whose message an allocation failed, and copies of both; and the error that no tree can show.
 pub(crate) fn push_refusals(alloc: Global, text: &mut Text) {
     let told = refused(String::from_str(alloc, "no type follows"));
     show_made(text, Ok(told), push_with_copy);
     show_made(text, Ok(refused(Err(AllocError))), push_with_copy);
     show_made(text, Ok(too_many_actions(alloc, Span(3, 8))), push_told);
-    push_code(text, FaultKind::GrammarAttribute);
-    push_code(text, FaultKind::SideOnLowest);
-    push_code(text, FaultKind::TooManyActions);
-}
-
-fn push_code(text: &mut Text, fault: FaultKind) {
-    text.put(fault.code());
-    text.end_line();
 }
 
 /// An error at `3..8`.

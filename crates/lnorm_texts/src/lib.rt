@@ -1,19 +1,15 @@
-//! The texts of test cases: the printed forms of trees and tables, and what a tree in JSON does not show (values that calls
-//! make, texts of parts, parts that have no form in JSON).
+//! The texts of test cases: values that no tree holds, texts of a tree's parts, tables of types, and what is asked of a lowered
+//! grammar.
 #![tactic(auto)]
 
-mod actions;
 pub mod faults;
-mod lifetimes;
-mod looks;
 pub mod lowered;
 pub mod made;
-mod names;
-mod parts;
 mod patterns;
-pub mod print;
+pub mod spans;
 mod stop;
-mod tables;
+pub mod tables;
 pub mod text;
 pub mod texts;
+mod types;
 pub mod values;

@@ -3,9 +3,8 @@
 //! A value that is made over several calls ends on each way out of them. So no other function of this crate keeps one over a
 //! call that may fail: it hands the calls' answers to a function of this file.
 use crate::text::Text;
-use lalrpop_norm_tree::grammar::parse_tree::{ArgPattern, Name};
 use shared_text::{Atom, NoMemory};
-use std::alloc::{AllocError, Global};
+use std::alloc::Global;
 use std::fmt;
 
 /// The value, unless an allocation failed.
@@ -51,13 +50,8 @@ fn push_two<T: Drop>(
     push_made(values, Ok(second))
 }
 
-/// The value in a box.
-pub(crate) fn boxed<T: Drop>(alloc: Global, made: Result<T, NoMemory>) -> Result<Box<T>, NoMemory> {
-    Ok(Box::new(alloc, made?)?)
-}
-
 /// A copy of the value.
-pub(crate) fn cloned<T: Clone>(value: &T) -> Result<T, NoMemory> {
+pub fn cloned<T: Clone>(value: &T) -> Result<T, NoMemory> {
     Ok(value.clone()?)
 }
 
@@ -65,17 +59,6 @@ pub(crate) fn cloned<T: Clone>(value: &T) -> Result<T, NoMemory> {
 pub(crate) fn copy_of<T: Clone + Drop>(made: Result<T, NoMemory>) -> Result<T, NoMemory> {
     let value = made?;
     cloned(&value)
-}
-
-/// A copy of the value that was made, which ends, by a function that copies such values.
-pub(crate) fn copied_by<T: Drop, F: FnOnce(&T) -> Result<T, AllocError>>(
-    made: Result<T, NoMemory>,
-    copy: F,
-) -> Result<T, NoMemory>
-    requires { F.IsAlwaysCallable copy }
-{
-    let value = made?;
-    Ok(copy(&value)?)
 }
 
 /// What is made of the value that was made, which ends.
@@ -101,11 +84,6 @@ pub fn show_made<T: Drop, F: FnOnce(&mut Text, &T)>(
         Ok(value) => show(text, &value),
         Err(_) => text.lack(),
     }
-}
-
-/// Leaves the value out.
-pub(crate) fn leave_out<T: Drop>(_value: T) -> Result<(), NoMemory> {
-    Ok(())
 }
 
 /// Pushes the value that was made.
@@ -159,11 +137,7 @@ pub(crate) fn push_line<T: fmt::Display + Drop>(
 }
 
 /// The text before it, and the value that was made by its `Debug`.
-pub(crate) fn push_debug<T: fmt::Debug + Drop>(
-    text: &mut Text,
-    before: &str,
-    made: Result<T, NoMemory>,
-) {
+pub fn push_debug<T: fmt::Debug + Drop>(text: &mut Text, before: &str, made: Result<T, NoMemory>) {
     match made {
         Ok(value) => {
             text.put(before);
@@ -174,7 +148,7 @@ pub(crate) fn push_debug<T: fmt::Debug + Drop>(
 }
 
 /// The text before it, the value that was made by its `Debug`, and the end of the line.
-pub(crate) fn push_debug_line<T: fmt::Debug + Drop>(
+pub fn push_debug_line<T: fmt::Debug + Drop>(
     text: &mut Text,
     before: &str,
     made: Result<T, NoMemory>,
@@ -191,13 +165,4 @@ pub fn atom(alloc: Global, name: &str) -> Result<Atom, NoMemory> {
 /// The text, by itself.
 pub fn string(alloc: Global, content: &str) -> Result<String, NoMemory> {
     Ok(String::from_str(alloc, content)?)
-}
-
-/// `name`, or `mut name`.
-pub(crate) fn name_pattern(
-    alloc: Global,
-    mutable: bool,
-    name: &str,
-) -> Result<ArgPattern, NoMemory> {
-    Ok(ArgPattern::Name(Name::new(mutable, atom(alloc, name)?)))
 }

@@ -55,11 +55,10 @@ impl Text {
         self.is_whole = self.is_whole && write!(self.text, "{part:?}").is_ok();
     }
 
-    /// Puts the part by its `Debug`, between those texts.
-    pub fn debug_between<T: fmt::Debug + Drop>(&mut self, before: &str, part: T, after: &str) {
+    /// Puts the text, and the part by its `Debug`.
+    pub fn debug_after<T: fmt::Debug + Drop>(&mut self, before: &str, part: T) {
         self.put(before);
         self.debug(part);
-        self.put(after);
     }
 
     /// Puts the text, the part by its `Debug`, and the end of the line.

@@ -1,43 +1,73 @@
 //! Texts of the parts of a tree, and whether its copy is equal to it.
 use crate::made::{cloned, push_after};
-use crate::print::symbols::push_span_line;
+use crate::spans::push_span_line;
 use crate::text::Text;
 use lalrpop_norm_precedence::precedence::has_several_levels;
 use lalrpop_norm_tree::grammar::parse_tree::{
-    Alternative, ArgPattern, Attribute, Grammar, GrammarItem, MatchContents, NoMemory,
+    Alternative, ArgPattern, Attribute, ExternToken, Grammar, GrammarItem, MatchContents, NoMemory,
     NonterminalData, Span, Symbol, SymbolKind, Tuple, is_known_attribute, read_algorithm,
 };
 use lalrpop_norm_tree::grammar::repr::Algorithm;
 use std::alloc::Global;
-use std::slice;
+use std::{fmt, slice};
 
-/// Whether a copy is equal; what the attributes ask for; of each symbol of an alternative its canonical form, also that of what
-/// is in it, and the names of tuples; of rules whether they have several levels; of match blocks the spans of their items.
+/// Whether a copy is equal; what the attributes ask for; the texts of the head's parts, of types and of patterns; of each symbol of
+/// an alternative its canonical form, also that of what is in it, and the names of tuples; of rules whether they have several
+/// levels; of match blocks the spans of their items.
 pub fn push_texts(alloc: Global, text: &mut Text, tree: &Grammar) {
     push_equality(text, tree);
     for attribute in &tree.attributes {
         push_algorithm(text, attribute);
     }
+    push_lines(text, "type parameter ", &tree.type_parameters);
+    for parameter in &tree.parameters {
+        text.show_line("parameter of type ", &parameter.ty);
+    }
+    push_lines(text, "where ", &tree.where_clauses);
     for item in &tree.items {
-        match item {
-            GrammarItem::Nonterminal(rule) => push_rule_texts(alloc, text, rule),
-            GrammarItem::MatchToken(block) => {
-                for group in &block.contents {
-                    push_places(text, group);
-                }
+        push_item_texts(alloc, text, item);
+    }
+}
+
+/// For each of the values a line.
+fn push_lines<T: fmt::Display>(text: &mut Text, before: &str, values: &[T]) {
+    for value in values {
+        text.show_line(before, value);
+    }
+}
+
+fn push_item_texts(alloc: Global, text: &mut Text, item: &GrammarItem) {
+    match item {
+        GrammarItem::Nonterminal(rule) => push_rule_texts(alloc, text, rule),
+        GrammarItem::ExternToken(block) => push_extern_texts(text, block),
+        GrammarItem::MatchToken(block) => {
+            for group in &block.contents {
+                push_places(text, group);
             }
-            _ => {}
+        }
+        GrammarItem::InternToken(_) | GrammarItem::Use(_) => {}
+    }
+}
+
+/// Its types, and the pattern of each conversion.
+fn push_extern_texts(text: &mut Text, block: &ExternToken) {
+    for associated in &block.associated_types {
+        text.show_line("associated type ", &associated.type_ref);
+    }
+    if let Some(tokens) = &block.enum_token {
+        text.show_line("enum ", &tokens.type_name);
+        for conversion in &tokens.conversions {
+            text.show_line("pattern ", &conversion.to);
         }
     }
 }
 
 /// What an attribute of a grammar asks for, if it is known.
-fn push_algorithm(text: &mut Text, attribute: &Attribute) {
+pub fn push_algorithm(text: &mut Text, attribute: &Attribute) {
     if is_known_attribute(attribute) {
         let mut algorithm = Algorithm::default();
         read_algorithm(slice::from_ref(attribute), &mut algorithm);
-        text.debug(algorithm);
-        text.end_line();
+        text.debug_line("", &algorithm);
     }
 }
 
@@ -49,6 +79,11 @@ fn push_places(text: &mut Text, group: &MatchContents) {
 }
 
 fn push_rule_texts(alloc: Global, text: &mut Text, rule: &NonterminalData) {
+    text.show_between("", &rule.visibility, "rule");
+    if let Some(ty) = &rule.type_decl {
+        text.show_after(": ", ty);
+    }
+    text.end_line();
     match has_several_levels(alloc, rule) {
         Ok(true) => text.put("several levels\n"),
         Ok(false) => {}
