@@ -9,6 +9,7 @@ import re
 from schema_check import BASIC, Form, Maybe, Table, Unread, expression
 
 FILES = ["crates/lalrpop_norm_json/specs/%s.antt" % name for name in ("Forms", "SymbolForms", "ItemForms")] \
+    + ["crates/lalrpop_norm_lowered_json_tables/specs/TableForms.antt"] \
     + ["crates/lalrpop_norm_lowered_json/specs/%s.antt" % name for name in ("LoweredForms", "WholeForms")]
 START = "whole_form"
 SIGNATURE = re.compile(r"\s*(?:abbrev )?(?:pub )?(\w+) : ")

@@ -2,8 +2,8 @@
 
 The schema is made of the table in section 5 of docs/use/FORMATS.md. It is compared with
 
-- the definitions of the form, in crates/lalrpop_norm_lowered_json/specs and crates/lalrpop_norm_json/specs (schema_forms.py);
-- the code of the writer, crates/lalrpop_norm_lowered_json/src (schema_writer.py);
+- the definitions of the form, in specs/ of crates/lalrpop_norm_json and crates/lalrpop_norm_lowered_json* (schema_forms.py);
+- the code of the writer, crates/lalrpop_norm_lowered_json*/src (schema_writer.py);
 - small grammars made of the table, and these with one key or item changed: by the table, which is run here;
 - what the program lexplain prints of the grammars of crates/cases and examples, if a program is named.
 """

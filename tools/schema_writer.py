@@ -10,9 +10,9 @@ import re
 
 from schema_check import Unread, all_forms, block
 
-WRITER = "crates/lalrpop_norm_lowered_json/src"
+WRITER = "crates/lalrpop_norm_lowered_json*/src"
 # The modules with a function for any type.
-GENERIC = ("put.rt", "variants.rt", "tests.rt", "lib.rt", "laws.rt")
+GENERIC = ("put.rt", "tests.rt", "lib.rt", "laws.rt")
 FUNCTION = re.compile(r"\bfn (\w+)")
 EVENT = re.compile(r'\bout\.(begin_object|end_object)\(\)|\bout\.(key|string)\("(\w+)"\)|(?<![\w.])(\w+)(?:::<[^()"]*>)?\(\s*out,\s*"(\w+)"'
                    r"|(?<![\w.:>])(\w+)\(\s*out\b")
@@ -35,9 +35,9 @@ def kind_of(event, functions):
         return event[0]
     if event[0] == "begin_variant":
         return "begin variant"
-    if event[0] in ("put_named", "put_variant"):
+    if event[0] == "put_variant":
         return "variant"
-    if event[0] in ("put_field", "put_list_field"):
+    if event[0] in ("put_field", "put_list_field", "put_rows_field", "put_maybe_field"):
         return "key"
     if event[0] not in functions:
         raise Unread("%s: there is no function %s" % (WRITER, event[0]))
@@ -110,9 +110,6 @@ def differences(root, table):
     """How many structs and variants the code has, and where it differs from a table."""
     structs, variants, names = of_writer(os.path.join(root, WRITER))
     forms = all_forms(table)
-    start = tuple(sorted(table.form(table.start).fields))
-    # (with origins and without)
-    structs[start] = min(structs[start], 1)
     mine = [collections.Counter(tuple(sorted(form.fields)) for form in forms if form.fields),
             collections.Counter(key for form in forms for key in form.cases or ()),
             collections.Counter(key for form in forms for key in form.names or ())]
