@@ -50,7 +50,8 @@ impl Types {
     pub fn add_type(&mut self, name: NonterminalString, ty: TypeRepr) -> Result<(), NoMemory>
         requires { type_of name (type_table self.old) ≡ None }
         ensures added { OnOk result (type_of name (type_table self.new) ≡ Some (repr_view ty)) }
-        ensures others { OnOk result ((other : NonterminalString) → (other ≡ name → ⊥) → type_of other (type_table self.new) ≡ type_of other (type_table self.old)) }
+        ensures others { OnOk result ((other : NonterminalString) → (other ≡ name → ⊥)
+            → type_of other (type_table self.new) ≡ type_of other (type_table self.old)) }
         ensures rest { type_table self.new ≡ record (type_table self.old) { nonterminals = (type_table self.new).nonterminals } }
         ensures err { OnErr result (type_table self.new ≡ type_table self.old) }
     {
@@ -63,7 +64,8 @@ impl Types {
     pub fn add_term_type(&mut self, terminal: TerminalString, ty: TypeRepr) -> Result<(), NoMemory>
         requires { listed_type terminal (type_table self.old) ≡ None }
         ensures added { OnOk result (listed_type terminal (type_table self.new) ≡ Some (repr_view ty)) }
-        ensures others { OnOk result ((other : TerminalString) → (other ≡ terminal → ⊥) → listed_type other (type_table self.new) ≡ listed_type other (type_table self.old)) }
+        ensures others { OnOk result ((other : TerminalString) → (other ≡ terminal → ⊥)
+            → listed_type other (type_table self.new) ≡ listed_type other (type_table self.old)) }
         ensures rest { type_table self.new ≡ record (type_table self.old) { terminals = (type_table self.new).terminals } }
         ensures err { OnErr result (type_table self.new ≡ type_table self.old) }
     {

@@ -1,5 +1,5 @@
-//! The texts of lists, and of a result. They are taken as the `Vec` and the `Option` that a type holds: a text of a recursive type may then be
-//! made of them.
+//! The texts of lists, and of a result. They are taken as the `Vec` and the `Option` that a type holds: a text of a recursive type may
+//! then be made of them.
 ghost use Rattle.std.specs.Prelude.{Some, map, option_map, codes};
 ghost use Rattle.std.specs.Fmt.{DisplaysOnOk, ◌++?◌};
 ghost use Rattle.lalrpop_norm_tree_parts.specs.KnownTexts.{joined_known, angled_known, bounds_known, returned_known};

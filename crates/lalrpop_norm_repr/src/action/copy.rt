@@ -1,6 +1,7 @@
 //! Copies of actions.
 ghost use Rattle.std.specs.Prelude.{◌≡◌, IfOk, map};
-ghost use Rattle.lalrpop_norm_repr.specs.Actions.{action_defn_view, action_kind_view, inline_action_view, inlined_symbol_view, user_action_view};
+ghost use Rattle.lalrpop_norm_repr.specs.Actions.{action_defn_view, action_kind_view, inline_action_view, inlined_symbol_view};
+ghost use Rattle.lalrpop_norm_repr.specs.Actions.{user_action_view};
 
 use super::{ActionFnDefn, ActionFnDefnKind, InlineActionFnDefn, InlinedSymbol, UserActionFnDefn};
 use crate::production::copy_symbols;

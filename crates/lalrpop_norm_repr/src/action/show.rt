@@ -7,7 +7,8 @@ ghost use Rattle.lalrpop_norm_tree.specs.Symbols.{argument_pattern_view};
 ghost use Rattle.lalrpop_norm_tree_names.specs.Texts.{joined};
 ghost use Rattle.lalrpop_norm_tree_parts.specs.TypeTexts.{repr_text};
 ghost use Rattle.lalrpop_norm_repr.specs.Actions.{action_defn_view, inlined_symbol_view, user_action_view};
-ghost use Rattle.lalrpop_norm_repr.specs.ReprTexts.{action_defn_text, action_kind_text, argument_text, inline_text, lookaround_text, typed_text};
+ghost use Rattle.lalrpop_norm_repr.specs.ReprTexts.{action_defn_text, action_kind_text, argument_text, inline_text, lookaround_text};
+ghost use Rattle.lalrpop_norm_repr.specs.ReprTexts.{typed_text};
 
 use super::{
     ActionFnDefn, ActionFnDefnKind, InlineActionFnDefn, InlinedSymbol, LookaroundActionFnDefn,
@@ -52,7 +53,8 @@ fn show_signature<W: fmt::Write>(
     f: &mut fmt::Formatter<W>,
 ) -> fmt::Result
     ensures { WritesOnOk W.write_str_gives f.old result
-        (codes "fn _(" ++ joined (codes ", ") (map typed_text (zip (map argument_pattern_view action.now.arg_patterns.items) (map repr_view action.now.arg_types.items))) ++ codes ") -> " ++ repr_text (repr_view ret.now)) f.new }
+        (codes "fn _(" ++ joined (codes ", ") (map typed_text (zip (map argument_pattern_view action.now.arg_patterns.items)
+        (map repr_view action.now.arg_types.items))) ++ codes ") -> " ++ repr_text (repr_view ret.now)) f.new }
 {
     f.write_str("fn _(")?;
     show_typed(&action.arg_patterns, &action.arg_types, f)?;

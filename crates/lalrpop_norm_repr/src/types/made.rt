@@ -21,7 +21,8 @@ impl Types {
         error: Option<TypeRepr>,
         token: TypeRepr,
     ) -> Result<Types, NoMemory>
-        ensures { IfOk result (λ t. type_table t ≡ new_table prefix.now (option_map repr_view location) (option_map repr_view error) (repr_view token)) }
+        ensures { IfOk result (λ t. type_table t
+            ≡ new_table prefix.now (option_map repr_view location) (option_map repr_view error) (repr_view token)) }
     {
         let known = location_or_unit(alloc, &location)?;
         let thrown = error_or_text(alloc, &error)?;
@@ -139,7 +140,8 @@ fn util(
     token: &TypeRepr,
     error: &TypeRepr,
 ) -> Result<TypeRepr, NoMemory>
-    ensures { IfOk result (λ t. repr_view t ≡ util_type prefix.now name.now (repr_view location.now) (repr_view token.now) (repr_view error.now)) }
+    ensures { IfOk result (λ t. repr_view t
+        ≡ util_type prefix.now name.now (repr_view location.now) (repr_view token.now) (repr_view error.now)) }
 {
     let path = util_path(alloc, prefix, name)?;
     let first = location.clone()?;
@@ -172,7 +174,8 @@ fn three(
     second: TypeRepr,
     third: TypeRepr,
 ) -> Result<Vec<TypeRepr>, NoMemory>
-    ensures { IfOk result (λ ts. reprs_view ts.items ≡ repr_and (repr_view first) (repr_and (repr_view second) (repr_and (repr_view third) no_reprs))) }
+    ensures { IfOk result (λ ts. reprs_view ts.items
+        ≡ repr_and (repr_view first) (repr_and (repr_view second) (repr_and (repr_view third) no_reprs))) }
 {
     let mut types = Vec::with_capacity(alloc, 3)?;
     types.push(first)?;

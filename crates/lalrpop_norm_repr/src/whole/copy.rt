@@ -85,7 +85,8 @@ fn copy_signature(
 ) -> Result<(Vec<TypeParameter>, Vec<Parameter>, Vec<WhereClause>), NoMemory>
     ensures type_parameters { IfOk result (λ s. s.0.items ≡ grammar.now.type_parameters.items) }
     ensures parameters { IfOk result (λ s. map lowered_parameter_view s.1.items ≡ map lowered_parameter_view grammar.now.parameters.items) }
-    ensures clauses { IfOk result (λ s. map lowered_where_clause_view s.2.items ≡ map lowered_where_clause_view grammar.now.where_clauses.items) }
+    ensures clauses { IfOk result (λ s. map lowered_where_clause_view s.2.items
+        ≡ map lowered_where_clause_view grammar.now.where_clauses.items) }
 {
     let type_parameters = copy_type_parameters(&grammar.type_parameters)?;
     let parameters = copy_parameters(&grammar.parameters)?;

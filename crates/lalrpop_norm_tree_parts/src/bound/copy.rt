@@ -1,7 +1,8 @@
 //! Copies of where clauses and bounds.
 ghost use Rattle.std.specs.Prelude.{◌≡◌, IfOk, map};
 ghost use Rattle.std.specs.List.{AllZip};
-ghost use Rattle.lalrpop_norm_tree_parts.specs.Bounds.{bound_parameter_view, bound_view, where_clause_view, SameOption, SameBoundParameter, SameBound, SameWhereClause};
+ghost use Rattle.lalrpop_norm_tree_parts.specs.Bounds.{bound_parameter_view, bound_view, where_clause_view, SameOption, SameBoundParameter};
+ghost use Rattle.lalrpop_norm_tree_parts.specs.Bounds.{SameBound, SameWhereClause};
 
 use super::{TypeBound, TypeBoundParameter, WhereClause};
 use crate::names::Lifetime;
@@ -30,7 +31,8 @@ impl<T: Clone> TypeBound<T> {
 impl<T: Clone> TypeBoundParameter<T> {
     /// A copy, with a clone of each T. The only error is a failed allocation.
     pub fn clone(&self) -> Result<TypeBoundParameter<T>, NoMemory>
-        ensures { IfOk result (λ p. SameBoundParameter T.is_clone (bound_parameter_view (λ t. t) self.now) (bound_parameter_view (λ t. t) p)) }
+        ensures { IfOk result
+            (λ p. SameBoundParameter T.is_clone (bound_parameter_view (λ t. t) self.now) (bound_parameter_view (λ t. t) p)) }
     {
         Ok(copy_parameter(self)?)
     }
@@ -96,7 +98,8 @@ fn copy_bound<T: Clone>(bound: &TypeBound<T>) -> Result<TypeBound<T>, AllocError
 fn copy_parameter<T: Clone>(
     parameter: &TypeBoundParameter<T>,
 ) -> Result<TypeBoundParameter<T>, AllocError>
-    ensures { IfOk result (λ p. SameBoundParameter T.is_clone (bound_parameter_view (λ t. t) parameter.now) (bound_parameter_view (λ t. t) p)) }
+    ensures { IfOk result
+        (λ p. SameBoundParameter T.is_clone (bound_parameter_view (λ t. t) parameter.now) (bound_parameter_view (λ t. t) p)) }
 {
     match parameter {
         TypeBoundParameter::Lifetime(lifetime) => Ok(TypeBoundParameter::Lifetime(
@@ -137,7 +140,8 @@ fn copy_bounds<T: Clone>(
     alloc: Global,
     bounds: &[TypeBound<T>],
 ) -> Result<Vec<TypeBound<T>>, AllocError>
-    ensures { IfOk result (λ bs. AllZip (SameBound T.is_clone) (map (bound_view (λ t. t)) bounds.now) (map (bound_view (λ t. t)) bs.items)) }
+    ensures { IfOk result
+        (λ bs. AllZip (SameBound T.is_clone) (map (bound_view (λ t. t)) bounds.now) (map (bound_view (λ t. t)) bs.items)) }
 {
     let mut copies = Vec::new(alloc);
     for bound in bounds {
@@ -150,7 +154,8 @@ fn copy_parameters<T: Clone>(
     alloc: Global,
     parameters: &[TypeBoundParameter<T>],
 ) -> Result<Vec<TypeBoundParameter<T>>, AllocError>
-    ensures { IfOk result (λ ps. AllZip (SameBoundParameter T.is_clone) (map (bound_parameter_view (λ t. t)) parameters.now) (map (bound_parameter_view (λ t. t)) ps.items)) }
+    ensures { IfOk result (λ ps. AllZip (SameBoundParameter T.is_clone) (map (bound_parameter_view (λ t. t)) parameters.now)
+        (map (bound_parameter_view (λ t. t)) ps.items)) }
 {
     let mut copies = Vec::new(alloc);
     for parameter in parameters {

@@ -24,8 +24,10 @@ impl<T> TypeBound<T> {
         requires { F.IsAlwaysCallable f.old }
         ensures again { F.IsAlwaysCallable f.new }
         ensures kept { IfOk result (λ b. bound_shape (bound_view (λ u. u) b) ≡ bound_shape (bound_view (λ t. t) self.now)) }
-        ensures answered { IfOk result (λ b. Answered (CalledAt F.FnMut) f.old (types_in_bound (bound_view (λ t. t) self.now)) (types_in_bound (bound_view (λ u. u) b)) f.new) }
-        ensures ended { IfErr result (λ e. Ended (CalledAt F.FnMut) (E.from_gives record {}) f.old (types_in_bound (bound_view (λ t. t) self.now)) e f.new) }
+        ensures answered { IfOk result (λ b. Answered (CalledAt F.FnMut) f.old (types_in_bound (bound_view (λ t. t) self.now))
+            (types_in_bound (bound_view (λ u. u) b)) f.new) }
+        ensures ended { IfErr result
+            (λ e. Ended (CalledAt F.FnMut) (E.from_gives record {}) f.old (types_in_bound (bound_view (λ t. t) self.now)) e f.new) }
     {
         match self {
             TypeBound::Lifetime(lifetime) => Ok(TypeBound::Lifetime(same_lifetime(lifetime)?)),
@@ -52,9 +54,12 @@ impl<T> TypeBoundParameter<T> {
     ) -> Result<TypeBoundParameter<U>, E>
         requires { F.IsAlwaysCallable f.old }
         ensures again { F.IsAlwaysCallable f.new }
-        ensures kept { IfOk result (λ p. bound_parameter_shape (bound_parameter_view (λ u. u) p) ≡ bound_parameter_shape (bound_parameter_view (λ t. t) self.now)) }
-        ensures answered { IfOk result (λ p. Answered (CalledAt F.FnMut) f.old (types_in_parameter (bound_parameter_view (λ t. t) self.now)) (types_in_parameter (bound_parameter_view (λ u. u) p)) f.new) }
-        ensures ended { IfErr result (λ e. Ended (CalledAt F.FnMut) (E.from_gives record {}) f.old (types_in_parameter (bound_parameter_view (λ t. t) self.now)) e f.new) }
+        ensures kept { IfOk result (λ p. bound_parameter_shape (bound_parameter_view (λ u. u) p)
+            ≡ bound_parameter_shape (bound_parameter_view (λ t. t) self.now)) }
+        ensures answered { IfOk result (λ p. Answered (CalledAt F.FnMut) f.old (types_in_parameter (bound_parameter_view (λ t. t) self.now))
+            (types_in_parameter (bound_parameter_view (λ u. u) p)) f.new) }
+        ensures ended { IfErr result (λ e. Ended (CalledAt F.FnMut) (E.from_gives record {}) f.old
+            (types_in_parameter (bound_parameter_view (λ t. t) self.now)) e f.new) }
     {
         map_parameter(self, f)
     }
@@ -102,9 +107,12 @@ fn map_function<T, U: Drop, E: From<NoMemory>, F: FnMut(&T) -> Result<U, E>>(
     requires { F.IsAlwaysCallable f.old }
     ensures again { F.IsAlwaysCallable f.new }
     ensures kept { IfOk result (λ b. bound_shape (bound_view (λ u. u) b)
-        ≡ function_bound head.0.items (path_view head.1) (map (λ _. tt) (map (λ t. t) parameters.now.items)) (option_map (λ _. tt) (option_map (λ t. t) ret.now))) }
-    ensures answered { IfOk result (λ b. Answered (CalledAt F.FnMut) f.old (map (λ t. t) parameters.now.items ++ option_to_list (option_map (λ t. t) ret.now)) (types_in_bound (bound_view (λ u. u) b)) f.new) }
-    ensures ended { IfErr result (λ e. Ended (CalledAt F.FnMut) (E.from_gives record {}) f.old (map (λ t. t) parameters.now.items ++ option_to_list (option_map (λ t. t) ret.now)) e f.new) }
+        ≡ function_bound head.0.items (path_view head.1) (map (λ _. tt) (map (λ t. t) parameters.now.items))
+        (option_map (λ _. tt) (option_map (λ t. t) ret.now))) }
+    ensures answered { IfOk result (λ b. Answered (CalledAt F.FnMut) f.old (map (λ t. t) parameters.now.items
+        ++ option_to_list (option_map (λ t. t) ret.now)) (types_in_bound (bound_view (λ u. u) b)) f.new) }
+    ensures ended { IfErr result (λ e. Ended (CalledAt F.FnMut) (E.from_gives record {}) f.old (map (λ t. t) parameters.now.items
+        ++ option_to_list (option_map (λ t. t) ret.now)) e f.new) }
 {
     let parameters = map_types(*parameters.allocator(), parameters, f)?;
     let ret = map_return(ret, f)?;
@@ -123,9 +131,12 @@ fn map_parameter<T, U: Drop, E: From<NoMemory>, F: FnMut(&T) -> Result<U, E>>(
 ) -> Result<TypeBoundParameter<U>, E>
     requires { F.IsAlwaysCallable f.old }
     ensures again { F.IsAlwaysCallable f.new }
-    ensures kept { IfOk result (λ p. bound_parameter_shape (bound_parameter_view (λ u. u) p) ≡ bound_parameter_shape (bound_parameter_view (λ t. t) parameter.now)) }
-    ensures answered { IfOk result (λ p. Answered (CalledAt F.FnMut) f.old (types_in_parameter (bound_parameter_view (λ t. t) parameter.now)) (types_in_parameter (bound_parameter_view (λ u. u) p)) f.new) }
-    ensures ended { IfErr result (λ e. Ended (CalledAt F.FnMut) (E.from_gives record {}) f.old (types_in_parameter (bound_parameter_view (λ t. t) parameter.now)) e f.new) }
+    ensures kept { IfOk result (λ p. bound_parameter_shape (bound_parameter_view (λ u. u) p)
+        ≡ bound_parameter_shape (bound_parameter_view (λ t. t) parameter.now)) }
+    ensures answered { IfOk result (λ p. Answered (CalledAt F.FnMut) f.old
+        (types_in_parameter (bound_parameter_view (λ t. t) parameter.now)) (types_in_parameter (bound_parameter_view (λ u. u) p)) f.new) }
+    ensures ended { IfErr result (λ e. Ended (CalledAt F.FnMut) (E.from_gives record {}) f.old
+        (types_in_parameter (bound_parameter_view (λ t. t) parameter.now)) e f.new) }
 {
     match parameter {
         TypeBoundParameter::Lifetime(lifetime) => {
@@ -154,10 +165,13 @@ fn map_parameters<T, U: Drop, E: From<NoMemory>, F: FnMut(&T) -> Result<U, E>>(
 ) -> Result<Vec<TypeBoundParameter<U>>, E>
     requires { F.IsAlwaysCallable f.old }
     ensures again { F.IsAlwaysCallable f.new }
-    ensures kept { IfOk result (λ ps. map bound_parameter_shape (map (bound_parameter_view (λ u. u)) ps.items) ≡ map bound_parameter_shape (map (bound_parameter_view (λ t. t)) parameters.now)) }
+    ensures kept { IfOk result (λ ps. map bound_parameter_shape (map (bound_parameter_view (λ u. u)) ps.items)
+        ≡ map bound_parameter_shape (map (bound_parameter_view (λ t. t)) parameters.now)) }
     ensures answered { IfOk result (λ ps. Answered (CalledAt F.FnMut) f.old
-        (flat_map types_in_parameter (map (bound_parameter_view (λ t. t)) parameters.now)) (flat_map types_in_parameter (map (bound_parameter_view (λ u. u)) ps.items)) f.new) }
-    ensures ended { IfErr result (λ e. Ended (CalledAt F.FnMut) (E.from_gives record {}) f.old (flat_map types_in_parameter (map (bound_parameter_view (λ t. t)) parameters.now)) e f.new) }
+        (flat_map types_in_parameter (map (bound_parameter_view (λ t. t)) parameters.now))
+        (flat_map types_in_parameter (map (bound_parameter_view (λ u. u)) ps.items)) f.new) }
+    ensures ended { IfErr result (λ e. Ended (CalledAt F.FnMut) (E.from_gives record {}) f.old
+        (flat_map types_in_parameter (map (bound_parameter_view (λ t. t)) parameters.now)) e f.new) }
 {
     let mut mapped = Vec::new(alloc);
     for parameter in parameters {
@@ -175,9 +189,11 @@ fn map_trait<T, U: Drop, E: From<NoMemory>, F: FnMut(&T) -> Result<U, E>>(
     requires { F.IsAlwaysCallable f.old }
     ensures again { F.IsAlwaysCallable f.new }
     ensures kept { IfOk result (λ b. bound_shape (bound_view (λ u. u) b)
-        ≡ trait_bound head.0.items (path_view head.1) (map bound_parameter_shape (map (bound_parameter_view (λ t. t)) parameters.now.items))) }
+        ≡ trait_bound head.0.items (path_view head.1)
+        (map bound_parameter_shape (map (bound_parameter_view (λ t. t)) parameters.now.items))) }
     ensures answered { IfOk result (λ b. Answered (CalledAt F.FnMut) f.old
-        (flat_map types_in_parameter (map (bound_parameter_view (λ t. t)) parameters.now.items)) (types_in_bound (bound_view (λ u. u) b)) f.new) }
+        (flat_map types_in_parameter (map (bound_parameter_view (λ t. t)) parameters.now.items))
+        (types_in_bound (bound_view (λ u. u) b)) f.new) }
     ensures ended { IfErr result (λ e. Ended (CalledAt F.FnMut) (E.from_gives record {}) f.old
         (flat_map types_in_parameter (map (bound_parameter_view (λ t. t)) parameters.now.items)) e f.new) }
 {

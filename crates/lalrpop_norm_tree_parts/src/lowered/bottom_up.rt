@@ -1,6 +1,7 @@
 //! Lowered types with a closure called at each type after its parts.
 ghost use Rattle.std.specs.Prelude.{◌≡◌, IfOk, option_map};
-ghost use Rattle.lalrpop_norm_tree_parts.specs.BottomUp.{bottom_up, inside_type, all_inside, return_inside, made, ◌▸◌, answered_as, CalledAtRepr};
+ghost use Rattle.lalrpop_norm_tree_parts.specs.BottomUp.{bottom_up, inside_type, all_inside, return_inside, made, ◌▸◌, answered_as};
+ghost use Rattle.lalrpop_norm_tree_parts.specs.BottomUp.{CalledAtRepr};
 ghost use Rattle.lalrpop_norm_tree_parts.specs.Paths.{path_view};
 ghost use Rattle.lalrpop_norm_tree_parts.specs.Reprs.{repr_view, reprs_view, applied_view, maybe_repr_of, reference};
 
@@ -22,7 +23,8 @@ impl TypeRepr {
     ) -> Result<TypeRepr, E>
         requires { F.IsAlwaysCallable f.old }
         ensures again { F.IsAlwaysCallable f.new }
-        ensures walked { bottom_up (CalledAtRepr F.FnMut) (E.from_gives record {}) (repr_view self.now) f.old (answered_as repr_view result) f.new }
+        ensures walked { bottom_up (CalledAtRepr F.FnMut) (E.from_gives record {})
+            (repr_view self.now) f.old (answered_as repr_view result) f.new }
     {
         walk(self, alloc, f)
     }
@@ -37,7 +39,8 @@ fn walk<E: From<NoMemory>, F: FnMut(TypeRepr) -> Result<TypeRepr, E>>(
 ) -> Result<TypeRepr, E>
     requires { F.IsAlwaysCallable f.old }
     ensures again { F.IsAlwaysCallable f.new }
-    ensures walked { bottom_up (CalledAtRepr F.FnMut) (E.from_gives record {}) (repr_view ty.now) f.old (answered_as repr_view result) f.new }
+    ensures walked { bottom_up (CalledAtRepr F.FnMut) (E.from_gives record {})
+        (repr_view ty.now) f.old (answered_as repr_view result) f.new }
 {
     let walked = walk_parts(ty, alloc, f)?;
     f(walked)
@@ -52,7 +55,8 @@ fn walk_parts<E: From<NoMemory>, F: FnMut(TypeRepr) -> Result<TypeRepr, E>>(
 ) -> Result<TypeRepr, E>
     requires { F.IsAlwaysCallable f.old }
     ensures again { F.IsAlwaysCallable f.new }
-    ensures walked { inside_type (CalledAtRepr F.FnMut) (E.from_gives record {}) (repr_view ty.now) f.old (answered_as repr_view result) f.new }
+    ensures walked { inside_type (CalledAtRepr F.FnMut) (E.from_gives record {})
+        (repr_view ty.now) f.old (answered_as repr_view result) f.new }
 {
     match ty {
         TypeRepr::Tuple(types) => Ok(TypeRepr::Tuple(walk_all(types, alloc, f)?)),
@@ -101,7 +105,8 @@ fn walk_reference<E: From<NoMemory>, F: FnMut(TypeRepr) -> Result<TypeRepr, E>>(
 ) -> Result<TypeRepr, E>
     requires { F.IsAlwaysCallable f.old }
     ensures again { F.IsAlwaysCallable f.new }
-    ensures walked { inside_type (CalledAtRepr F.FnMut) (E.from_gives record {}) (reference lifetime.now mutable (repr_view referent.now)) f.old (answered_as repr_view result) f.new }
+    ensures walked { inside_type (CalledAtRepr F.FnMut) (E.from_gives record {}) (reference lifetime.now mutable (repr_view referent.now))
+        f.old (answered_as repr_view result) f.new }
 {
     let referent = walk_boxed(referent, alloc, f)?;
     Ok(TypeRepr::Ref {
@@ -120,7 +125,8 @@ fn walk_all<E: From<NoMemory>, F: FnMut(TypeRepr) -> Result<TypeRepr, E>>(
 ) -> Result<Vec<TypeRepr>, E>
     requires { F.IsAlwaysCallable f.old }
     ensures again { F.IsAlwaysCallable f.new }
-    ensures walked { all_inside (CalledAtRepr F.FnMut) (E.from_gives record {}) (reprs_view types.now.items) f.old (answered_as (λ ts. reprs_view ts.items) result) f.new }
+    ensures walked { all_inside (CalledAtRepr F.FnMut) (E.from_gives record {}) (reprs_view types.now.items)
+        f.old (answered_as (λ ts. reprs_view ts.items) result) f.new }
 {
     let mut walked = Vec::new(alloc);
     for ty in types {
@@ -138,7 +144,8 @@ fn walk_boxed<E: From<NoMemory>, F: FnMut(TypeRepr) -> Result<TypeRepr, E>>(
 ) -> Result<Box<TypeRepr>, E>
     requires { F.IsAlwaysCallable f.old }
     ensures again { F.IsAlwaysCallable f.new }
-    ensures walked { (bottom_up (CalledAtRepr F.FnMut) (E.from_gives record {}) (repr_view ty.now) ▸ made (E.from_gives record {})) f.old (answered_as (λ b. repr_view b.value) result) f.new }
+    ensures walked { (bottom_up (CalledAtRepr F.FnMut) (E.from_gives record {}) (repr_view ty.now) ▸ made (E.from_gives record {}))
+        f.old (answered_as (λ b. repr_view b.value) result) f.new }
 {
     let walked = walk(ty, alloc, f)?;
     Ok(boxed(alloc, walked)?)
@@ -154,7 +161,8 @@ fn walk_nominal<E: From<NoMemory>, F: FnMut(TypeRepr) -> Result<TypeRepr, E>>(
     requires { F.IsAlwaysCallable f.old }
     ensures again { F.IsAlwaysCallable f.new }
     ensures walked { let seen = applied_view nominal.now in
-        (all_inside (CalledAtRepr F.FnMut) (E.from_gives record {}) seen.1 ▸ λ us. made (E.from_gives record {}) (seen.0, us)) f.old (answered_as applied_view result) f.new }
+        (all_inside (CalledAtRepr F.FnMut) (E.from_gives record {}) seen.1 ▸ λ us. made (E.from_gives record {}) (seen.0, us))
+        f.old (answered_as applied_view result) f.new }
 {
     let path = same_path(&nominal.path)?;
     let types = walk_all(&nominal.types, alloc, f)?;
@@ -170,7 +178,8 @@ fn walk_return<E: From<NoMemory>, F: FnMut(TypeRepr) -> Result<TypeRepr, E>>(
 ) -> Result<Option<Box<TypeRepr>>, E>
     requires { F.IsAlwaysCallable f.old }
     ensures again { F.IsAlwaysCallable f.new }
-    ensures walked { return_inside (CalledAtRepr F.FnMut) (E.from_gives record {}) (maybe_repr_of (option_map (λ b. repr_view b.value) ret.now)) f.old (answered_as (λ r. maybe_repr_of (option_map (λ b. repr_view b.value) r)) result) f.new }
+    ensures walked { return_inside (CalledAtRepr F.FnMut) (E.from_gives record {}) (maybe_repr_of (option_map (λ b. repr_view b.value)
+        ret.now)) f.old (answered_as (λ r. maybe_repr_of (option_map (λ b. repr_view b.value) r)) result) f.new }
 {
     match ret {
         None => Ok(None),

@@ -1,6 +1,7 @@
 //! The parameters that lowered types speak of.
 ghost use Rattle.std.specs.Prelude.{◌≡◌, ◌∷◌, ◌++◌, [], map, filter, not, IfOk, OnOk, option_map, option_to_list};
-ghost use Rattle.lalrpop_norm_tree_parts.specs.FreeVariables.{is_parameter_among, met_in_type, met_in_path, met_in_all, met_in_return, with_parameters, free_in};
+ghost use Rattle.lalrpop_norm_tree_parts.specs.FreeVariables.{is_parameter_among, met_in_type, met_in_path, met_in_all, met_in_return};
+ghost use Rattle.lalrpop_norm_tree_parts.specs.FreeVariables.{with_parameters, free_in};
 ghost use Rattle.lalrpop_norm_tree_parts.specs.Paths.{path_view};
 ghost use Rattle.lalrpop_norm_tree_parts.specs.Reprs.{repr_view, reprs_view, applied_view, maybe_repr_of};
 
@@ -35,7 +36,8 @@ fn add_free(
     listed: &[TypeParameter],
     all: &mut Vec<TypeParameter>,
 ) -> Result<(), NoMemory>
-    ensures { OnOk result (all.new.items ≡ with_parameters all.old.items (filter (is_parameter_among listed.now) (met_in_type (repr_view ty.now)))) }
+    ensures { OnOk result (all.new.items
+        ≡ with_parameters all.old.items (filter (is_parameter_among listed.now) (met_in_type (repr_view ty.now)))) }
 {
     match ty {
         TypeRepr::Tuple(types) => add_free_of_all(types, listed, all),
@@ -75,7 +77,8 @@ fn add_free_of_all(
     listed: &[TypeParameter],
     all: &mut Vec<TypeParameter>,
 ) -> Result<(), NoMemory>
-    ensures { OnOk result (all.new.items ≡ with_parameters all.old.items (filter (is_parameter_among listed.now) (met_in_all (reprs_view types.now.items)))) }
+    ensures { OnOk result (all.new.items
+        ≡ with_parameters all.old.items (filter (is_parameter_among listed.now) (met_in_all (reprs_view types.now.items)))) }
 {
     for ty in types {
         add_free(ty, listed, all)?;
@@ -90,7 +93,8 @@ fn add_free_of_nominal(
     listed: &[TypeParameter],
     all: &mut Vec<TypeParameter>,
 ) -> Result<(), NoMemory>
-    ensures { OnOk result (all.new.items ≡ with_parameters all.old.items (filter (is_parameter_among listed.now) (met_in_path (applied_view nominal.now).0 ++ met_in_all (applied_view nominal.now).1))) }
+    ensures { OnOk result (all.new.items ≡ with_parameters all.old.items
+        (filter (is_parameter_among listed.now) (met_in_path (applied_view nominal.now).0 ++ met_in_all (applied_view nominal.now).1))) }
 {
     add_path(&nominal.path, listed, all)?;
     add_free_of_all(&nominal.types, listed, all)
@@ -103,7 +107,8 @@ fn add_free_of_return(
     listed: &[TypeParameter],
     all: &mut Vec<TypeParameter>,
 ) -> Result<(), NoMemory>
-    ensures { OnOk result (all.new.items ≡ with_parameters all.old.items (filter (is_parameter_among listed.now) (met_in_return (maybe_repr_of (option_map (λ b. repr_view b.value) ret.now))))) }
+    ensures { OnOk result (all.new.items ≡ with_parameters all.old.items
+        (filter (is_parameter_among listed.now) (met_in_return (maybe_repr_of (option_map (λ b. repr_view b.value) ret.now))))) }
 {
     match ret {
         None => Ok(()),
@@ -117,7 +122,8 @@ fn add_path(
     listed: &[TypeParameter],
     all: &mut Vec<TypeParameter>,
 ) -> Result<(), NoMemory>
-    ensures { OnOk result (all.new.items ≡ with_parameters all.old.items (filter (is_parameter_among listed.now) (met_in_path (path_view path.now)))) }
+    ensures { OnOk result (all.new.items
+        ≡ with_parameters all.old.items (filter (is_parameter_among listed.now) (met_in_path (path_view path.now)))) }
 {
     match path.as_id() {
         None => Ok(()),
@@ -131,7 +137,8 @@ fn add_maybe_lifetime(
     listed: &[TypeParameter],
     all: &mut Vec<TypeParameter>,
 ) -> Result<(), NoMemory>
-    ensures { OnOk result (all.new.items ≡ with_parameters all.old.items (filter (is_parameter_among listed.now) (map (λ l. TypeParameter.Lifetime l) (option_to_list lifetime.now)))) }
+    ensures { OnOk result (all.new.items ≡ with_parameters all.old.items
+        (filter (is_parameter_among listed.now) (map (λ l. TypeParameter.Lifetime l) (option_to_list lifetime.now)))) }
 {
     match lifetime {
         None => Ok(()),
@@ -145,7 +152,8 @@ fn add_lifetime(
     listed: &[TypeParameter],
     all: &mut Vec<TypeParameter>,
 ) -> Result<(), NoMemory>
-    ensures { OnOk result (all.new.items ≡ with_parameters all.old.items (filter (is_parameter_among listed.now) (TypeParameter.Lifetime lifetime.now ∷ []))) }
+    ensures { OnOk result (all.new.items
+        ≡ with_parameters all.old.items (filter (is_parameter_among listed.now) (TypeParameter.Lifetime lifetime.now ∷ []))) }
 {
     let lifetime = Lifetime(lifetime.0.again());
     add_listed(TypeParameter::Lifetime(lifetime), listed, all)
@@ -194,7 +202,8 @@ fn add_unbound(
     bound: &Vec<TypeParameter>,
     unbound: &mut Vec<TypeParameter>,
 ) -> Result<(), NoMemory>
-    ensures { OnOk result (unbound.new.items ≡ unbound.old.items ++ filter (λ p. not (is_parameter_among bound.now.items p)) (parameter.now ∷ [])) }
+    ensures { OnOk result (unbound.new.items ≡ unbound.old.items
+        ++ filter (λ p. not (is_parameter_among bound.now.items p)) (parameter.now ∷ [])) }
 {
     if is_parameter_among(parameter, bound) {
         Ok(())

@@ -1,6 +1,7 @@
 //! Lowered types of one name, references to `str`, and the unit type.
 ghost use Rattle.std.specs.Prelude.{◌≡◌, ◌↔◌, IfOk, IsTrue, codes};
-ghost use Rattle.lalrpop_norm_tree_parts.specs.Reprs.{repr_view, tuple, no_reprs, named_repr, parameter_repr, str_at, static_str, input_str};
+ghost use Rattle.lalrpop_norm_tree_parts.specs.Reprs.{repr_view, tuple, no_reprs, named_repr, parameter_repr, str_at, static_str};
+ghost use Rattle.lalrpop_norm_tree_parts.specs.Reprs.{input_str};
 
 use super::{NominalTypeRepr, TypeRepr};
 use crate::names::{Lifetime, TypeParameter};

@@ -23,12 +23,14 @@ impl TypeRepr {
         type_parameters: &mut Vec<TypeParameter>,
         where_clauses: &mut Vec<WhereClause>,
     ) -> Result<TypeRepr, NoMemory>
-        ensures named { IfOk result (λ t. (repr_view t, scope_of type_parameters.new.items where_clauses.new.items) ≡ named prefix.now (repr_view self.now) (scope_of type_parameters.old.items where_clauses.old.items)) }
+        ensures named { IfOk result (λ t. (repr_view t, scope_of type_parameters.new.items where_clauses.new.items)
+            ≡ named prefix.now (repr_view self.now) (scope_of type_parameters.old.items where_clauses.old.items)) }
         ensures parameters { BeginsWith type_parameters.new.items type_parameters.old.items }
         ensures clauses { BeginsWith where_clauses.new.items where_clauses.old.items }
     {
         let mut name = |ty: TypeRepr|
-            ensures named { IfOk result (λ t. (repr_view t, scope_of type_parameters.exit.now.items where_clauses.exit.now.items) ≡ named_here prefix.entry.now (repr_view ty) (scope_of type_parameters.entry.now.items where_clauses.entry.now.items)) }
+            ensures named { IfOk result (λ t. (repr_view t, scope_of type_parameters.exit.now.items where_clauses.exit.now.items)
+                ≡ named_here prefix.entry.now (repr_view ty) (scope_of type_parameters.entry.now.items where_clauses.entry.now.items)) }
             ensures parameters { BeginsWith type_parameters.exit.now.items type_parameters.entry.now.items }
             ensures clauses { BeginsWith where_clauses.exit.now.items where_clauses.entry.now.items }
             ensures prefix { prefix.exit.now ≡ prefix.entry.now }
@@ -45,7 +47,8 @@ fn name_here(
     parameters: &mut Vec<TypeParameter>,
     clauses: &mut Vec<WhereClause>,
 ) -> Result<TypeRepr, NoMemory>
-    ensures named { IfOk result (λ t. (repr_view t, scope_of parameters.new.items clauses.new.items) ≡ named_here prefix.now (repr_view ty) (scope_of parameters.old.items clauses.old.items)) }
+    ensures named { IfOk result (λ t. (repr_view t, scope_of parameters.new.items clauses.new.items)
+        ≡ named_here prefix.now (repr_view ty) (scope_of parameters.old.items clauses.old.items)) }
     ensures parameters { BeginsWith parameters.new.items parameters.old.items }
     ensures clauses { BeginsWith clauses.new.items clauses.old.items }
 {
@@ -80,7 +83,8 @@ fn name_lifetime(
     prefix: &str,
     parameters: &mut Vec<TypeParameter>,
 ) -> Result<TypeRepr, NoMemory>
-    ensures named { IfOk result (λ t. (cs : List WhereClause) → (repr_view t, scope_of parameters.new.items cs) ≡ lifetime_named prefix.now lifetime (scope_of parameters.old.items cs)) }
+    ensures named { IfOk result (λ t. (cs : List WhereClause) → (repr_view t, scope_of parameters.new.items cs)
+        ≡ lifetime_named prefix.now lifetime (scope_of parameters.old.items cs)) }
     ensures begins { BeginsWith parameters.new.items parameters.old.items }
 {
     if lifetime.is_anonymous() {

@@ -24,7 +24,8 @@ pub(super) fn add_outlives(
     listed: &[TypeParameter],
     clauses: &mut Vec<WhereClause>,
 ) -> Result<(), NoMemory>
-    ensures added { OnOk result (map lowered_where_clause_view clauses.new.items ≡ with_outlives lifetime.now (map lowered_where_clause_view clauses.old.items) (free_in listed.now (repr_view referent.now))) }
+    ensures added { OnOk result (map lowered_where_clause_view clauses.new.items
+        ≡ with_outlives lifetime.now (map lowered_where_clause_view clauses.old.items) (free_in listed.now (repr_view referent.now))) }
     ensures begins { BeginsWith clauses.new.items clauses.old.items }
 {
     let free = referent.free_variables(alloc, listed)?;
@@ -38,7 +39,8 @@ fn add_each(
     lifetime: &Lifetime,
     clauses: &mut Vec<WhereClause>,
 ) -> Result<(), NoMemory>
-    ensures added { OnOk result (map lowered_where_clause_view clauses.new.items ≡ with_outlives lifetime.now (map lowered_where_clause_view clauses.old.items) parameters.now) }
+    ensures added { OnOk result (map lowered_where_clause_view clauses.new.items
+        ≡ with_outlives lifetime.now (map lowered_where_clause_view clauses.old.items) parameters.now) }
     ensures begins { BeginsWith clauses.new.items clauses.old.items }
 {
     for parameter in parameters {
@@ -54,7 +56,8 @@ fn add_clause(
     lifetime: &Lifetime,
     clauses: &mut Vec<WhereClause>,
 ) -> Result<(), NoMemory>
-    ensures added { OnOk result (map lowered_where_clause_view clauses.new.items ≡ with_outlives lifetime.now (map lowered_where_clause_view clauses.old.items) (parameter.now ∷ [])) }
+    ensures added { OnOk result (map lowered_where_clause_view clauses.new.items
+        ≡ with_outlives lifetime.now (map lowered_where_clause_view clauses.old.items) (parameter.now ∷ [])) }
     ensures begins { BeginsWith clauses.new.items clauses.old.items }
 {
     if is_said(parameter, lifetime, clauses) {

@@ -21,14 +21,16 @@ impl<T> Pattern<T> {
 
 #[cycle(bindings)]
 fn add_chosen<'a, T>(pattern: &'a Pattern<T>, all: &mut Vec<&'a T>) -> Result<(), NoMemory>
-    ensures { OnOk result (map (λ t. t.now) all.new.items ≡ map (λ t. t.now) all.old.items ++ chosen_in_pattern (pattern_view (λ t. t) pattern.now)) }
+    ensures { OnOk result (map (λ t. t.now) all.new.items ≡ map (λ t. t.now) all.old.items
+        ++ chosen_in_pattern (pattern_view (λ t. t) pattern.now)) }
 {
     add_chosen_of_kind(&pattern.kind, all)
 }
 
 #[cycle(bindings)]
 fn add_chosen_of_kind<'a, T>(kind: &'a PatternKind<T>, all: &mut Vec<&'a T>) -> Result<(), NoMemory>
-    ensures { OnOk result (map (λ t. t.now) all.new.items ≡ map (λ t. t.now) all.old.items ++ chosen_in_kind (pattern_kind_view (λ t. t) kind.now)) }
+    ensures { OnOk result (map (λ t. t.now) all.new.items ≡ map (λ t. t.now) all.old.items
+        ++ chosen_in_kind (pattern_kind_view (λ t. t) kind.now)) }
 {
     match kind {
         PatternKind::Enum(_, inner) => add_chosen_of_all(inner, all),
@@ -50,7 +52,8 @@ fn add_chosen_of_all<'a, T>(
     patterns: &'a [Pattern<T>],
     all: &mut Vec<&'a T>,
 ) -> Result<(), NoMemory>
-    ensures { OnOk result (map (λ t. t.now) all.new.items ≡ map (λ t. t.now) all.old.items ++ chosen_in_all (patterns_view (λ t. t) patterns.now)) }
+    ensures { OnOk result (map (λ t. t.now) all.new.items ≡ map (λ t. t.now) all.old.items
+        ++ chosen_in_all (patterns_view (λ t. t) patterns.now)) }
 {
     for pattern in patterns {
         add_chosen(pattern, all)?;
@@ -63,7 +66,8 @@ fn add_chosen_of_fields<'a, T>(
     fields: &'a [FieldPattern<T>],
     all: &mut Vec<&'a T>,
 ) -> Result<(), NoMemory>
-    ensures { OnOk result (map (λ t. t.now) all.new.items ≡ map (λ t. t.now) all.old.items ++ chosen_in_fields (fields_view (λ t. t) fields.now)) }
+    ensures { OnOk result (map (λ t. t.now) all.new.items ≡ map (λ t. t.now) all.old.items
+        ++ chosen_in_fields (fields_view (λ t. t) fields.now)) }
 {
     for field in fields {
         add_chosen_of_field(field, all)?;
@@ -76,7 +80,8 @@ fn add_chosen_of_field<'a, T>(
     field: &'a FieldPattern<T>,
     all: &mut Vec<&'a T>,
 ) -> Result<(), NoMemory>
-    ensures { OnOk result (map (λ t. t.now) all.new.items ≡ map (λ t. t.now) all.old.items ++ chosen_in_pattern (field_view (λ t. t) field.now).pattern) }
+    ensures { OnOk result (map (λ t. t.now) all.new.items ≡ map (λ t. t.now) all.old.items
+        ++ chosen_in_pattern (field_view (λ t. t) field.now).pattern) }
 {
     add_chosen(&field.pattern, all)
 }

@@ -1,7 +1,9 @@
 //! Copies of patterns.
 ghost use Rattle.std.specs.Prelude.{◌≡◌, IfOk};
 ghost use Rattle.lalrpop_norm_tree_parts.specs.Paths.{path_view};
-ghost use Rattle.lalrpop_norm_tree_patterns.specs.Patterns.{enumerated, structured, tuple_struct, pattern_view, pattern_kind_view, field_view, patterns_view, fields_view, SamePattern, SamePatternKind, SamePatterns, SameField, SameFields};
+ghost use Rattle.lalrpop_norm_tree_patterns.specs.Patterns.{enumerated, structured, tuple_struct, pattern_view, pattern_kind_view};
+ghost use Rattle.lalrpop_norm_tree_patterns.specs.Patterns.{field_view, patterns_view, fields_view, SamePattern, SamePatternKind};
+ghost use Rattle.lalrpop_norm_tree_patterns.specs.Patterns.{SamePatterns, SameField, SameFields};
 
 use super::{FieldPattern, Pattern, PatternKind};
 use lalrpop_norm_tree_parts::names::Span;
@@ -144,7 +146,8 @@ fn named<T: Clone>(
     name: &Atom,
     pattern: Pattern<T>,
 ) -> Result<FieldPattern<T>, AllocError>
-    ensures { IfOk result (λ f. field_view (λ t. t) f ≡ record { span = field_span; name = name.now; pattern = pattern_view (λ t. t) pattern }) }
+    ensures { IfOk result (λ f. field_view (λ t. t) f
+        ≡ record { span = field_span; name = name.now; pattern = pattern_view (λ t. t) pattern }) }
 {
     let field_name = name.clone()?;
     Ok(FieldPattern {

@@ -2,7 +2,8 @@
 ghost use Rattle.std.specs.Prelude.{◌≡◌, IfOk, string_bytes};
 ghost use Rattle.std.specs.Fn.{CalledAt};
 ghost use Rattle.std.specs.Result.{IfErr};
-ghost use Rattle.lalrpop_norm_tree_patterns.specs.MappedPatterns.{kind_shape, pattern_shape, field_shape, mapped_patterns, mapped_fields, chosen_in_pattern, chosen_in_kind, chosen_in_all, chosen_in_fields};
+ghost use Rattle.lalrpop_norm_tree_patterns.specs.MappedPatterns.{kind_shape, pattern_shape, field_shape, mapped_patterns, mapped_fields};
+ghost use Rattle.lalrpop_norm_tree_patterns.specs.MappedPatterns.{chosen_in_pattern, chosen_in_kind, chosen_in_all, chosen_in_fields};
 ghost use Rattle.lalrpop_norm_tree_parts.specs.Paths.{path_view};
 ghost use Rattle.lalrpop_norm_tree_patterns.specs.Patterns.{pattern_view, pattern_kind_view, field_view, patterns_view, fields_view};
 ghost use Rattle.lalrpop_norm_tree_parts.specs.Walks.{Answered, Ended};
@@ -23,8 +24,10 @@ impl<T> Pattern<T> {
         requires { F.IsAlwaysCallable f.old }
         ensures again { F.IsAlwaysCallable f.new }
         ensures kept { IfOk result (λ p. pattern_shape (pattern_view (λ u. u) p) ≡ pattern_shape (pattern_view (λ t. t) self.now)) }
-        ensures answered { IfOk result (λ p. Answered (CalledAt F.FnMut) f.old (chosen_in_pattern (pattern_view (λ t. t) self.now)) (chosen_in_pattern (pattern_view (λ u. u) p)) f.new) }
-        ensures ended { IfErr result (λ e. Ended (CalledAt F.FnMut) (E.from_gives record {}) f.old (chosen_in_pattern (pattern_view (λ t. t) self.now)) e f.new) }
+        ensures answered { IfOk result (λ p. Answered (CalledAt F.FnMut) f.old (chosen_in_pattern (pattern_view (λ t. t) self.now))
+            (chosen_in_pattern (pattern_view (λ u. u) p)) f.new) }
+        ensures ended { IfErr result (λ e. Ended (CalledAt F.FnMut) (E.from_gives record {}) f.old
+            (chosen_in_pattern (pattern_view (λ t. t) self.now)) e f.new) }
     {
         map_pattern(self, f)
     }
@@ -39,8 +42,10 @@ impl<T> FieldPattern<T> {
         requires { F.IsAlwaysCallable f.old }
         ensures again { F.IsAlwaysCallable f.new }
         ensures kept { IfOk result (λ d. field_shape (field_view (λ u. u) d) ≡ field_shape (field_view (λ t. t) self.now)) }
-        ensures answered { IfOk result (λ d. Answered (CalledAt F.FnMut) f.old (chosen_in_pattern (field_view (λ t. t) self.now).pattern) (chosen_in_pattern (field_view (λ u. u) d).pattern) f.new) }
-        ensures ended { IfErr result (λ e. Ended (CalledAt F.FnMut) (E.from_gives record {}) f.old (chosen_in_pattern (field_view (λ t. t) self.now).pattern) e f.new) }
+        ensures answered { IfOk result (λ d. Answered (CalledAt F.FnMut) f.old (chosen_in_pattern (field_view (λ t. t) self.now).pattern)
+            (chosen_in_pattern (field_view (λ u. u) d).pattern) f.new) }
+        ensures ended { IfErr result (λ e. Ended (CalledAt F.FnMut) (E.from_gives record {}) f.old
+            (chosen_in_pattern (field_view (λ t. t) self.now).pattern) e f.new) }
     {
         map_field(self, f)
     }
@@ -55,8 +60,10 @@ impl<T> PatternKind<T> {
         requires { F.IsAlwaysCallable f.old }
         ensures again { F.IsAlwaysCallable f.new }
         ensures kept { IfOk result (λ k. kind_shape (pattern_kind_view (λ u. u) k) ≡ kind_shape (pattern_kind_view (λ t. t) self.now)) }
-        ensures answered { IfOk result (λ k. Answered (CalledAt F.FnMut) f.old (chosen_in_kind (pattern_kind_view (λ t. t) self.now)) (chosen_in_kind (pattern_kind_view (λ u. u) k)) f.new) }
-        ensures ended { IfErr result (λ e. Ended (CalledAt F.FnMut) (E.from_gives record {}) f.old (chosen_in_kind (pattern_kind_view (λ t. t) self.now)) e f.new) }
+        ensures answered { IfOk result (λ k. Answered (CalledAt F.FnMut) f.old (chosen_in_kind (pattern_kind_view (λ t. t) self.now))
+            (chosen_in_kind (pattern_kind_view (λ u. u) k)) f.new) }
+        ensures ended { IfErr result (λ e. Ended (CalledAt F.FnMut) (E.from_gives record {}) f.old
+            (chosen_in_kind (pattern_kind_view (λ t. t) self.now)) e f.new) }
     {
         map_kind(self, f)
     }
@@ -70,8 +77,10 @@ fn map_pattern<T, U: Drop, E: From<NoMemory>, F: FnMut(&T) -> Result<U, E>>(
     requires { F.IsAlwaysCallable f.old }
     ensures again { F.IsAlwaysCallable f.new }
     ensures kept { IfOk result (λ p. pattern_shape (pattern_view (λ u. u) p) ≡ pattern_shape (pattern_view (λ t. t) pattern.now)) }
-    ensures answered { IfOk result (λ p. Answered (CalledAt F.FnMut) f.old (chosen_in_pattern (pattern_view (λ t. t) pattern.now)) (chosen_in_pattern (pattern_view (λ u. u) p)) f.new) }
-    ensures ended { IfErr result (λ e. Ended (CalledAt F.FnMut) (E.from_gives record {}) f.old (chosen_in_pattern (pattern_view (λ t. t) pattern.now)) e f.new) }
+    ensures answered { IfOk result (λ p. Answered (CalledAt F.FnMut) f.old (chosen_in_pattern (pattern_view (λ t. t) pattern.now))
+        (chosen_in_pattern (pattern_view (λ u. u) p)) f.new) }
+    ensures ended { IfErr result (λ e. Ended (CalledAt F.FnMut) (E.from_gives record {}) f.old
+        (chosen_in_pattern (pattern_view (λ t. t) pattern.now)) e f.new) }
 {
     let kind = map_kind(&pattern.kind, f)?;
     Ok(Pattern {
@@ -88,8 +97,10 @@ fn map_kind<T, U: Drop, E: From<NoMemory>, F: FnMut(&T) -> Result<U, E>>(
     requires { F.IsAlwaysCallable f.old }
     ensures again { F.IsAlwaysCallable f.new }
     ensures kept { IfOk result (λ k. kind_shape (pattern_kind_view (λ u. u) k) ≡ kind_shape (pattern_kind_view (λ t. t) kind.now)) }
-    ensures answered { IfOk result (λ k. Answered (CalledAt F.FnMut) f.old (chosen_in_kind (pattern_kind_view (λ t. t) kind.now)) (chosen_in_kind (pattern_kind_view (λ u. u) k)) f.new) }
-    ensures ended { IfErr result (λ e. Ended (CalledAt F.FnMut) (E.from_gives record {}) f.old (chosen_in_kind (pattern_kind_view (λ t. t) kind.now)) e f.new) }
+    ensures answered { IfOk result (λ k. Answered (CalledAt F.FnMut) f.old (chosen_in_kind (pattern_kind_view (λ t. t) kind.now))
+        (chosen_in_kind (pattern_kind_view (λ u. u) k)) f.new) }
+    ensures ended { IfErr result (λ e. Ended (CalledAt F.FnMut) (E.from_gives record {}) f.old
+        (chosen_in_kind (pattern_kind_view (λ t. t) kind.now)) e f.new) }
 {
     match kind {
         PatternKind::Enum(path, inner) => {
@@ -130,9 +141,12 @@ fn map_patterns<T, U: Drop, E: From<NoMemory>, F: FnMut(&T) -> Result<U, E>>(
 ) -> Result<Vec<Pattern<U>>, E>
     requires { F.IsAlwaysCallable f.old }
     ensures again { F.IsAlwaysCallable f.new }
-    ensures kept { IfOk result (λ ps. mapped_patterns (λ _. tt {0}) (patterns_view (λ u. u) ps.items) ≡ mapped_patterns (λ _. tt {0}) (patterns_view (λ t. t) patterns.now)) }
-    ensures answered { IfOk result (λ ps. Answered (CalledAt F.FnMut) f.old (chosen_in_all (patterns_view (λ t. t) patterns.now)) (chosen_in_all (patterns_view (λ u. u) ps.items)) f.new) }
-    ensures ended { IfErr result (λ e. Ended (CalledAt F.FnMut) (E.from_gives record {}) f.old (chosen_in_all (patterns_view (λ t. t) patterns.now)) e f.new) }
+    ensures kept { IfOk result (λ ps. mapped_patterns (λ _. tt {0}) (patterns_view (λ u. u) ps.items)
+        ≡ mapped_patterns (λ _. tt {0}) (patterns_view (λ t. t) patterns.now)) }
+    ensures answered { IfOk result (λ ps. Answered (CalledAt F.FnMut) f.old (chosen_in_all (patterns_view (λ t. t) patterns.now))
+        (chosen_in_all (patterns_view (λ u. u) ps.items)) f.new) }
+    ensures ended { IfErr result (λ e. Ended (CalledAt F.FnMut) (E.from_gives record {}) f.old
+        (chosen_in_all (patterns_view (λ t. t) patterns.now)) e f.new) }
 {
     let mut mapped = Vec::new(alloc);
     for pattern in patterns {
@@ -149,9 +163,12 @@ fn map_fields<T, U: Drop, E: From<NoMemory>, F: FnMut(&T) -> Result<U, E>>(
 ) -> Result<Vec<FieldPattern<U>>, E>
     requires { F.IsAlwaysCallable f.old }
     ensures again { F.IsAlwaysCallable f.new }
-    ensures kept { IfOk result (λ fs. mapped_fields (λ _. tt {0}) (fields_view (λ u. u) fs.items) ≡ mapped_fields (λ _. tt {0}) (fields_view (λ t. t) fields.now)) }
-    ensures answered { IfOk result (λ fs. Answered (CalledAt F.FnMut) f.old (chosen_in_fields (fields_view (λ t. t) fields.now)) (chosen_in_fields (fields_view (λ u. u) fs.items)) f.new) }
-    ensures ended { IfErr result (λ e. Ended (CalledAt F.FnMut) (E.from_gives record {}) f.old (chosen_in_fields (fields_view (λ t. t) fields.now)) e f.new) }
+    ensures kept { IfOk result (λ fs. mapped_fields (λ _. tt {0}) (fields_view (λ u. u) fs.items)
+        ≡ mapped_fields (λ _. tt {0}) (fields_view (λ t. t) fields.now)) }
+    ensures answered { IfOk result (λ fs. Answered (CalledAt F.FnMut) f.old (chosen_in_fields (fields_view (λ t. t) fields.now))
+        (chosen_in_fields (fields_view (λ u. u) fs.items)) f.new) }
+    ensures ended { IfErr result (λ e. Ended (CalledAt F.FnMut) (E.from_gives record {}) f.old
+        (chosen_in_fields (fields_view (λ t. t) fields.now)) e f.new) }
 {
     let mut mapped = Vec::new(alloc);
     for field in fields {
@@ -168,8 +185,10 @@ fn map_field<T, U: Drop, E: From<NoMemory>, F: FnMut(&T) -> Result<U, E>>(
     requires { F.IsAlwaysCallable f.old }
     ensures again { F.IsAlwaysCallable f.new }
     ensures kept { IfOk result (λ d. field_shape (field_view (λ u. u) d) ≡ field_shape (field_view (λ t. t) field.now)) }
-    ensures answered { IfOk result (λ d. Answered (CalledAt F.FnMut) f.old (chosen_in_pattern (field_view (λ t. t) field.now).pattern) (chosen_in_pattern (field_view (λ u. u) d).pattern) f.new) }
-    ensures ended { IfErr result (λ e. Ended (CalledAt F.FnMut) (E.from_gives record {}) f.old (chosen_in_pattern (field_view (λ t. t) field.now).pattern) e f.new) }
+    ensures answered { IfOk result (λ d. Answered (CalledAt F.FnMut) f.old (chosen_in_pattern (field_view (λ t. t) field.now).pattern)
+        (chosen_in_pattern (field_view (λ u. u) d).pattern) f.new) }
+    ensures ended { IfErr result (λ e. Ended (CalledAt F.FnMut) (E.from_gives record {}) f.old
+        (chosen_in_pattern (field_view (λ t. t) field.now).pattern) e f.new) }
 {
     let field_name = same_name(&field.field_name)?;
     let pattern = map_pattern(&field.pattern, f)?;

@@ -4,7 +4,8 @@ ghost use Rattle.std.specs.Fmt.{DisplaysOnOk, WritesOnOk, ◌++?◌};
 ghost use Rattle.lalrpop_norm_tree_parts.specs.Paths.{path_view};
 ghost use Rattle.lalrpop_norm_tree_patterns.specs.Patterns.{pattern_kind_view, pattern_view, field_view, patterns_view, fields_view};
 ghost use Rattle.lalrpop_norm_tree_parts.specs.KnownTexts.{joined_known};
-ghost use Rattle.lalrpop_norm_tree_patterns.specs.PatternTexts.{pattern_kind_text, pattern_text, pattern_texts, field_text, field_texts, rest_texts};
+ghost use Rattle.lalrpop_norm_tree_patterns.specs.PatternTexts.{pattern_kind_text, pattern_text, pattern_texts, field_text, field_texts};
+ghost use Rattle.lalrpop_norm_tree_patterns.specs.PatternTexts.{rest_texts};
 ghost use Rattle.lalrpop_norm_tree_names.specs.Texts.{escape};
 ghost use Rattle.lalrpop_norm_tree_parts.specs.TypeTexts.{path_text};
 
@@ -64,7 +65,8 @@ fn show_applied<T: fmt::Display, W: fmt::Write>(
     f: &mut fmt::Formatter<W>,
 ) -> fmt::Result
     ensures { DisplaysOnOk W.write_str_gives f.old result
-        (Some (path_text (path_view path.now)) ++? (Some (codes "(") ++? joined_known (codes ", ") (pattern_texts (patterns_view T.output patterns.now.items)) ++? Some (codes ")"))) f.new }
+        (Some (path_text (path_view path.now)) ++? (Some
+        (codes "(") ++? joined_known (codes ", ") (pattern_texts (patterns_view T.output patterns.now.items)) ++? Some (codes ")"))) f.new }
 {
     fmt::Display::fmt(path, f)?;
     show_patterns(patterns, f)
@@ -77,7 +79,8 @@ fn show_patterns<T: fmt::Display, W: fmt::Write>(
     f: &mut fmt::Formatter<W>,
 ) -> fmt::Result
     ensures { DisplaysOnOk W.write_str_gives f.old result
-        (Some (codes "(") ++? joined_known (codes ", ") (pattern_texts (patterns_view T.output patterns.now.items)) ++? Some (codes ")")) f.new }
+        (Some (codes "(") ++? joined_known (codes ", ") (pattern_texts (patterns_view T.output patterns.now.items)) ++? Some (codes ")"))
+        f.new }
 {
     show_between(patterns, f)
 }
@@ -92,7 +95,8 @@ fn show_struct<T: fmt::Display, W: fmt::Write>(
 ) -> fmt::Result
     ensures { DisplaysOnOk W.write_str_gives f.old result
         (Some (path_text (path_view path.now)) ++? Some (codes " { ")
-        ++? joined_known (codes ", ") (field_texts (fields_view T.output fields.now.items) ++ rest_texts rest) ++? Some (codes " }")) f.new }
+        ++? joined_known (codes ", ") (field_texts (fields_view T.output fields.now.items) ++ rest_texts rest) ++? Some (codes " }"))
+        f.new }
 {
     fmt::Display::fmt(path, f)?;
     f.write_str(" { ")?;
