@@ -7,7 +7,12 @@ use Rattle.lalrpop_norm_tree_names.specs.declared.names.Span.{Span}
 use Rattle.lalrpop_norm_tree.specs.Items.{ItemData, match_item, extern_item, intern_item, rule_item, RuleData, MatchTokenData}
 use Rattle.lalrpop_norm_tree.specs.Items.{ExternTokenData, InternTokenData, EnumTokenData, AssociatedTypeData, VisibilityData}
 use Rattle.lalrpop_norm_tree.specs.Items.{everywhere, within, private}
-use Rattle.lalrpop_norm_tree.specs.Symbols.{Part, at, tupled, ArgumentPattern, one_name, several, ArgumentPatterns}
+use Rattle.lalrpop_norm_tree.specs.Symbols.{Kind, Part, terminal, nonterminal, chosen, named, tupled, error_terminal, at}
+use Rattle.lalrpop_norm_tree.specs.Symbols.{ArgumentPattern, one_name, several, ArgumentPatterns, tuple_view}
+use Rattle.lalrpop_norm_tree.specs.declared.symbol.accessors.Binding.{Binding}
+use Rattle.lalrpop_norm_tree.specs.declared.symbol.accessors.Binding.TheVariants as binding
+use Rattle.lalrpop_norm_tree.specs.declared.symbol.accessors.GrammarSymbol.{GrammarSymbol}
+use Rattle.lalrpop_norm_tree.specs.declared.symbol.accessors.GrammarSymbol.TheVariants as grammar_symbol
 use Rattle.lalrpop_norm_tree.specs.SymbolTexts.{tuple_text}
 
 -- ---- lists
@@ -27,6 +32,35 @@ first_of f (x ∷ xs) = or_else (f x) (first_of f xs)
 abbrev pub tuple_of : Part → Option (ArgumentPatterns × Part)
 tuple_of (at s (tupled ps p)) = Some (ps, p)
 tuple_of _ = None
+
+-- what a terminal, a nonterminal and `!` are as symbols
+abbrev pub symbol_kind : GrammarSymbol → Kind
+symbol_kind (grammar_symbol.Terminal t) = terminal t.now
+symbol_kind (grammar_symbol.Nonterminal n) = nonterminal n.now.0
+symbol_kind grammar_symbol.Error = error_terminal
+
+-- whether a symbol is a terminal, a nonterminal or `!`
+abbrev pub is_grammar_symbol : Kind → Bool
+is_grammar_symbol (terminal t) = true
+is_grammar_symbol (nonterminal n) = true
+is_grammar_symbol error_terminal = true
+is_grammar_symbol _ = false
+
+-- the pattern that binds the value of a named or a tuple symbol
+abbrev pub binding_view : Binding → ArgumentPattern
+binding_view (binding.Name n) = one_name n.now
+binding_view (binding.Tuple t) = several (tuple_view t.now)
+
+-- the pattern and the symbol of a named or a tuple symbol
+abbrev pub binding_of : Kind → Option (ArgumentPattern × Part)
+binding_of (named n p) = Some (one_name n, p)
+binding_of (tupled ns p) = Some (several ns, p)
+binding_of _ = None
+
+-- the symbol of a selected symbol
+abbrev pub selected_of : Kind → Option Part
+selected_of (chosen p) = Some p
+selected_of _ = None
 
 -- a name without `mut`, and the text of a tuple
 abbrev pub pattern_name : ArgumentPattern → List ℕ

@@ -1,7 +1,6 @@
 -- One traversal of symbols: what is inside of one, a map over its leaves, a fold, and what is left without wrappers.
 use Rattle.lalrpop_norm_tree_names.specs.declared.names.Span.{Span}
-use Rattle.lalrpop_norm_tree.specs.Symbols.{Kind, Part, Parts, group, ambiguous_id, terminal, nonterminal, call, repeated, chosen}
-use Rattle.lalrpop_norm_tree.specs.Symbols.{named, tupled, lookahead, lookbehind, error_terminal, at, no_parts, part_and}
+use Rattle.lalrpop_norm_tree.specs.Symbols.{Kind, Part, Parts, group, call, repeated, chosen, named, tupled, at, no_parts, part_and}
 
 -- the symbols right inside of a symbol; a leaf has none
 abbrev pub inner : Kind → Parts
@@ -11,12 +10,7 @@ inner (repeated op p) = part_and p no_parts
 inner (chosen p) = part_and p no_parts
 inner (named n p) = part_and p no_parts
 inner (tupled ns p) = part_and p no_parts
-inner (ambiguous_id n) = no_parts
-inner (terminal t) = no_parts
-inner (nonterminal n) = no_parts
-inner lookahead = no_parts
-inner lookbehind = no_parts
-inner error_terminal = no_parts
+inner _ = no_parts
 
 -- a symbol with `leaf k` in place of each leaf `k` in it; all else stays, spans too
 abbrev mutual
@@ -27,12 +21,7 @@ abbrev mutual
   map_kind leaf (chosen p) = chosen (map_part leaf p)
   map_kind leaf (named n p) = named n (map_part leaf p)
   map_kind leaf (tupled ns p) = tupled ns (map_part leaf p)
-  map_kind leaf (ambiguous_id n) = leaf (ambiguous_id n)
-  map_kind leaf (terminal t) = leaf (terminal t)
-  map_kind leaf (nonterminal n) = leaf (nonterminal n)
-  map_kind leaf lookahead = leaf lookahead
-  map_kind leaf lookbehind = leaf lookbehind
-  map_kind leaf error_terminal = leaf error_terminal
+  map_kind leaf k = leaf k
 
   pub map_part : (Kind → Kind) → Part → Part
   map_part leaf (at s k) = at s (map_kind leaf k)
@@ -54,16 +43,29 @@ abbrev mutual
   fold_kind own empty join s (chosen p) = own s (chosen p) (fold_part own empty join p)
   fold_kind own empty join s (named n p) = own s (named n p) (fold_part own empty join p)
   fold_kind own empty join s (tupled ns p) = own s (tupled ns p) (fold_part own empty join p)
-  fold_kind own empty join s (ambiguous_id n) = own s (ambiguous_id n) empty
-  fold_kind own empty join s (terminal t) = own s (terminal t) empty
-  fold_kind own empty join s (nonterminal n) = own s (nonterminal n) empty
-  fold_kind own empty join s lookahead = own s lookahead empty
-  fold_kind own empty join s lookbehind = own s lookbehind empty
-  fold_kind own empty join s error_terminal = own s error_terminal empty
+  fold_kind own empty join s k = own s k empty
 
   pub fold_parts : {A : Type 0} → (Span → Kind → A → A) → A → (A → A → A) → Parts → A
   fold_parts own empty join no_parts = empty
   fold_parts own empty join (part_and p ps) = join (fold_part own empty join p) (fold_parts own empty join ps)
+
+-- A value of a symbol whatever its span: `own k inside` of a symbol `k`, likewise.
+abbrev mutual
+  pub gathered_kind : {A : Type 0} → (Kind → A → A) → A → (A → A → A) → Kind → A
+  gathered_kind own empty join (group ps) = own (group ps) (gathered_parts own empty join ps)
+  gathered_kind own empty join (call n ps) = own (call n ps) (gathered_parts own empty join ps)
+  gathered_kind own empty join (repeated op p) = own (repeated op p) (gathered_part own empty join p)
+  gathered_kind own empty join (chosen p) = own (chosen p) (gathered_part own empty join p)
+  gathered_kind own empty join (named n p) = own (named n p) (gathered_part own empty join p)
+  gathered_kind own empty join (tupled ns p) = own (tupled ns p) (gathered_part own empty join p)
+  gathered_kind own empty join k = own k empty
+
+  pub gathered_part : {A : Type 0} → (Kind → A → A) → A → (A → A → A) → Part → A
+  gathered_part own empty join (at s k) = gathered_kind own empty join k
+
+  pub gathered_parts : {A : Type 0} → (Kind → A → A) → A → (A → A → A) → Parts → A
+  gathered_parts own empty join no_parts = empty
+  gathered_parts own empty join (part_and p ps) = join (gathered_part own empty join p) (gathered_parts own empty join ps)
 
 -- The symbol under wrappers: under `<..>`, a name and a tuple pattern. Any other is its own.
 abbrev mutual
@@ -74,12 +76,15 @@ abbrev mutual
   unwrapped_kind s (chosen p) = unwrapped p
   unwrapped_kind s (named n p) = unwrapped p
   unwrapped_kind s (tupled ns p) = unwrapped p
-  unwrapped_kind s (group ps) = at s (group ps)
-  unwrapped_kind s (call n ps) = at s (call n ps)
-  unwrapped_kind s (repeated op p) = at s (repeated op p)
-  unwrapped_kind s (ambiguous_id n) = at s (ambiguous_id n)
-  unwrapped_kind s (terminal t) = at s (terminal t)
-  unwrapped_kind s (nonterminal n) = at s (nonterminal n)
-  unwrapped_kind s lookahead = at s lookahead
-  unwrapped_kind s lookbehind = at s lookbehind
-  unwrapped_kind s error_terminal = at s error_terminal
+  unwrapped_kind s k = at s k
+
+-- What a symbol is under wrappers, without its span.
+abbrev mutual
+  pub wrapped_kind : Kind → Kind
+  wrapped_kind (chosen p) = wrapped_part p
+  wrapped_kind (named n p) = wrapped_part p
+  wrapped_kind (tupled ns p) = wrapped_part p
+  wrapped_kind k = k
+
+  pub wrapped_part : Part → Kind
+  wrapped_part (at s k) = wrapped_kind k

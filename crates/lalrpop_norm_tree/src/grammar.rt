@@ -7,6 +7,7 @@ pub mod parse_tree {
         EnumToken, ExternToken, Grammar, GrammarItem, InternToken, MatchContents, MatchEntry,
         MatchItem, MatchMapping, MatchSymbol, MatchToken, NonterminalData, Visibility,
     };
+    pub use crate::symbol::accessors::{Binding, GrammarSymbol};
     pub use crate::symbol::{
         ArgPattern, ExprSymbol, MacroSymbol, Name, RepeatOp, RepeatSymbol, Symbol, SymbolKind,
         Tuple,

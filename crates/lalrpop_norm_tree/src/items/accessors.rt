@@ -1,7 +1,9 @@
 //! What items and grammars are made of and asked for.
 ghost use Rattle.std.specs.Prelude.{◌≡◌, [], ◌∷◌, ◌++◌, None, option_map, IfOk, IfErr};
-ghost use Rattle.lalrpop_norm_tree.specs.Accessors.{first_of, match_item_span, is_public, is_macro, is_macro_item, rule_of, match_token_of, extern_token_of, intern_token_of, enum_token_of, type_named};
-ghost use Rattle.lalrpop_norm_tree.specs.Items.{associated_type_view, enum_token_view, extern_token_view, grammar_view, intern_token_view, item_view, match_contents_view, match_token_view, rule_item, rule_view, visibility_view};
+ghost use Rattle.lalrpop_norm_tree.specs.Accessors.{first_of, match_item_span, is_public, is_macro, is_macro_item, rule_of, match_token_of};
+ghost use Rattle.lalrpop_norm_tree.specs.Accessors.{extern_token_of, intern_token_of, enum_token_of, type_named};
+ghost use Rattle.lalrpop_norm_tree.specs.Items.{associated_type_view, enum_token_view, extern_token_view, grammar_view, intern_token_view};
+ghost use Rattle.lalrpop_norm_tree.specs.Items.{item_view, match_contents_view, match_token_view, rule_item, rule_view, visibility_view};
 
 use super::{
     AssociatedType, EnumToken, ExternToken, Grammar, GrammarItem, InternToken, MatchContents,
@@ -23,7 +25,8 @@ impl MatchToken {
 
     /// The block with one more group at its end, at the same place. The only error is a failed allocation.
     pub fn add(self, _alloc: Global, contents: MatchContents) -> Result<MatchToken, NoMemory>
-        ensures contents { IfOk result (λ m. (match_token_view m).contents ≡ (match_token_view self).contents ++ match_contents_view contents ∷ []) }
+        ensures contents { IfOk result (λ m. (match_token_view m).contents
+            ≡ (match_token_view self).contents ++ match_contents_view contents ∷ []) }
         ensures span { IfOk result (λ m. m.span ≡ self.span) }
     {
         let MatchToken {
@@ -157,7 +160,8 @@ impl GrammarItem {
 impl ExternToken {
     /// The first associated type of that name.
     pub fn associated_type(&self, name: &str) -> Option<&AssociatedType>
-        ensures { option_map (λ t. associated_type_view t.now) result ≡ first_of (type_named name.now) (extern_token_view self.now).associated_types }
+        ensures { option_map (λ t. associated_type_view t.now) result
+            ≡ first_of (type_named name.now) (extern_token_view self.now).associated_types }
     {
         first_type(&self.associated_types, name)
     }

@@ -1,6 +1,7 @@
 //! Copies of rules, match blocks, tokenizers and associated types.
 ghost use Rattle.std.specs.Prelude.{◌≡◌, IfOk, map, option_map};
-ghost use Rattle.lalrpop_norm_tree.specs.Items.{action_view, alternative_view, associated_type_view, intern_token_view, match_contents_view, match_token_view, rule_view, visibility_view};
+ghost use Rattle.lalrpop_norm_tree.specs.Items.{action_view, alternative_view, associated_type_view, intern_token_view};
+ghost use Rattle.lalrpop_norm_tree.specs.Items.{match_contents_view, match_token_view, rule_view, visibility_view};
 ghost use Rattle.lalrpop_norm_tree.specs.Types.{type_view};
 
 use super::{

@@ -1,6 +1,7 @@
 //! What written types become.
 ghost use Rattle.std.specs.Prelude.{◌≡◌, ◌↔◌, true, false, option_map, IfOk, IsTrue, IsErrOf};
-ghost use Rattle.lalrpop_norm_tree.specs.LoweredTypes.{holds_symbol, any_holds_symbol, result_holds_symbol, named_path, repr_of, all_reprs_of, result_repr_of};
+ghost use Rattle.lalrpop_norm_tree.specs.LoweredTypes.{holds_symbol, any_holds_symbol, result_holds_symbol, named_path, repr_of};
+ghost use Rattle.lalrpop_norm_tree.specs.LoweredTypes.{all_reprs_of, result_repr_of};
 ghost use Rattle.lalrpop_norm_tree_parts.specs.Paths.{path_view};
 ghost use Rattle.lalrpop_norm_tree_parts.specs.Reprs.{repr_view, reprs_view, applied_view, maybe_repr_of, no_reprs};
 ghost use Rattle.lalrpop_norm_tree.specs.Types.{type_view, types_view, maybe_of};
@@ -185,7 +186,8 @@ fn lower_result(
     alloc: Global,
     ret: &Option<Box<TypeRef>>,
 ) -> Result<Option<Box<TypeRepr>>, AllocError>
-    ensures { IfOk result (λ r. maybe_repr_of (option_map (λ b. repr_view b.value) r) ≡ result_repr_of (maybe_of (option_map (λ b. type_view b.value) ret.now))) }
+    ensures { IfOk result (λ r. maybe_repr_of (option_map (λ b. repr_view b.value) r)
+        ≡ result_repr_of (maybe_of (option_map (λ b. type_view b.value) ret.now))) }
 {
     match ret {
         None => Ok(None),
