@@ -1,6 +1,6 @@
 -- The bounds of recursive occurrences by the associativity, and the conditions of macros.
-use Rattle.std.proofs.Common.{◌≡◌, ℕ, zero, suc, ◌+◌, List, [], ◌∷◌, ◌++◌, map, replicate, Option, Some, None, Bool, true, false, ◌&&◌, refl, sym, ap, ap₂, ◌∙◌, arith}
-use Rattle.std.specs.Prelude.{not, bytes_eq, if◌then◌else◌}
+use Rattle.std.proofs.Common.{◌≡◌, ℕ, zero, suc, ◌+◌, List, [], ◌∷◌, ◌++◌, map, replicate, Option, Some, None, Bool, true, false, refl, sym, ap, ap₂, ◌∙◌, arith}
+use Rattle.std.specs.Prelude.{bytes_eq, if◌then◌else◌}
 use Rattle.std.proofs.lemmas.Bool.{and_parts}
 use Rattle.lalrpop_norm_tree_names.specs.declared.names.NonterminalString.{NonterminalString}
 use Rattle.lalrpop_norm_tree.specs.declared.items.Condition.{Condition}
@@ -9,16 +9,16 @@ use Rattle.lalrpop_norm_tree.specs.declared.symbol.RepeatOp.TheVariants.{Star, P
 use Rattle.lalrpop_norm_tree.specs.Symbols as written
 use Rattle.lalrpop_norm_tree.specs.Symbols.{Kind, Part, Parts, at, no_parts, part_and}
 use Rattle.lalrpop_norm_theory.specs.Symbols.{Name, quoted, regex, bare, error_terminal, ClosedSymbol, ClosedSymbols, terminal, error, reference, call, group, star, plus, question, times, wrapped, lookahead, lookbehind}
-use Rattle.lalrpop_norm_model.specs.Scopes.{is_argument}
 use Rattle.lalrpop_norm_model.specs.Levels.{Side, left, right, neither, every, Leveled, previous_level}
 use Rattle.lalrpop_norm_model.specs.WrittenRules.{WrittenRule, rule_named}
 use Rattle.lalrpop_norm_model.specs.Occurrences.{count_kind, count_part, count_parts, bound_at, own_bound}
 use Rattle.lalrpop_norm_model.specs.Reading.{Reader, repeat_of, read_kind, read_part, read_parts, read_all}
 use Rattle.lalrpop_norm_model.specs.Grammars.{own_bound_in, bound_of, rule_reader, bound_argument, value_of, is_true, macro_reader, instance_parts, ConditionValue}
-use Rattle.lalrpop_norm_model.specs.Scoped.{is_scoped_kind, is_scoped, are_scoped, is_macro_for}
+use Rattle.lalrpop_norm_model.specs.Scoped.{is_scoped_kind, is_scoped, are_scoped}
 use Rattle.lalrpop_norm_model.specs.Bounds.{bounds_to, all_bounds_to, bounds_by, IsTrue}
 use Rattle.lalrpop_norm_model.specs.Laws.{BoundsAreBySide, ConditionsDecide}
 use Rattle.lalrpop_norm_model.proofs.MeaningLemmas.{instance_of}
+use Rattle.lalrpop_norm_model.proofs.ScopeLemmas.{scoped_inside}
 
 -- ---- occurrences by what is before and after them
 
@@ -63,8 +63,7 @@ module _ (rs : List WrittenRule) (r : WrittenRule) (a : Leveled) (f : ℕ → �
     kind_bounds before after (written.ambiguous_id n) h = absurd (cc h)
     kind_bounds before after (written.group ps) h = parts_bounds before after ps h
     kind_bounds before after (written.call n ps) h =
-        let behind = (and_parts (not (is_argument r.args n)) (is_macro_for ps (rule_named rs n) && are_scoped rs r.args ps) h).1 in
-        parts_bounds before after ps (and_parts (is_macro_for ps (rule_named rs n)) (are_scoped rs r.args ps) behind).1
+        parts_bounds before after ps (scoped_inside rs r.args (written.call n ps) h)
     kind_bounds before after (written.repeated op p) h = repeat_bounds op (read_part R before after p) ∙ part_bounds before after p h
     kind_bounds before after (written.chosen p) h = part_bounds before after p h
     kind_bounds before after (written.named n p) h = part_bounds before after p h

@@ -6,6 +6,7 @@ pub mod StatedLemmas
 pub mod WrittenLemmas
 pub mod EnabledLemmas
 pub mod TraversalLemmas
+pub mod MetLemmas
 pub mod ResolvedLemmas
 pub mod NumberedNames
 pub mod ReadingLemmas

@@ -1,5 +1,5 @@
 -- In what is reached, and so in the generated rules, each name has a meaning and no argument is left.
-use Rattle.std.proofs.Common.{◌≡◌, inl, inr, ℕ, zero, suc, List, [], ◌∷◌, ◌++◌, map, Option, Some, None, Bool, true, false, not, ◌||◌, ◌&&◌, refl, sym, ap, ap₂, ◌∙◌, subst}
+use Rattle.std.proofs.Common.{◌≡◌, inl, inr, ℕ, zero, suc, List, [], ◌∷◌, map, Option, Some, None, Bool, true, false, not, ◌||◌, ◌&&◌, refl, sym, ap, ap₂, ◌∙◌, subst}
 use Rattle.std.specs.Prelude.{flat_map, bytes_eq, if◌then◌else◌}
 use Rattle.std.proofs.lemmas.Bool.{and_parts}
 use Rattle.lalrpop_norm_tree_names.specs.declared.names.Span.{Span}
@@ -20,9 +20,12 @@ use Rattle.lalrpop_norm_model.specs.Reading.{read_all}
 use Rattle.lalrpop_norm_model.specs.Grammars.{is_nil, is_true, ConditionValue}
 use Rattle.lalrpop_norm_model.specs.Scoped.{is_rule, takes, is_macro_for, is_scoped_kind, is_scoped, are_scoped, IsScoped}
 use Rattle.lalrpop_norm_model.specs.MadeRules.{kind_of, argument_kind, or_name, kind_substituted, substituted, all_substituted, flat_reader, instance_alternative, instance_alternatives, instance_rule, instance_of, group_rule, star_rule, plus_rule, question_rule, so_many, times_rule, location_rule, made_rules}
-use Rattle.lalrpop_norm_model.specs.PlainRules.{met, all_met, met_in_rule, met_by_made}
+use Rattle.lalrpop_norm_model.specs.Replaced.{is_desugared}
+use Rattle.lalrpop_norm_model.specs.PlainRules.{all_met, met_in_rule, met_by_made}
 use Rattle.lalrpop_norm_model.specs.PlainTables.{closed}
 use Rattle.lalrpop_norm_model.proofs.LevelLemmas.{in_map}
+use Rattle.lalrpop_norm_model.proofs.ScopeLemmas.{scoped_inside}
+use Rattle.lalrpop_norm_model.proofs.MetLemmas.{all_met_hold}
 use Rattle.lalrpop_norm_model.proofs.MadeReadLemmas.{flat_of, macros_in, plain_in, called_of, plain_listed}
 
 module _ (rs : List WrittenRule) where
@@ -32,45 +35,28 @@ module _ (rs : List WrittenRule) where
 
   -- ---- what is reached
 
-  then_itself : (x : Part) (ms : List Part) → IsMade x → ((q : Part) → In q ms → IsMade q) → (q : Part) → In q (ms ++ x ∷ []) → IsMade q
-  then_itself x ms h f q i = elim (in_cases q ms (x ∷ []) i) [ inl j ↦ f q j | inr j ↦ here j ]
-    where
-      here : In q (x ∷ []) → IsMade q
-      here (inl e) = subst (λ (y : Part). IsMade y) (sym e) h
-      here (inr e) = absurd e
-
   repeat_expanded : (s : Span) (op : RepeatOp) (p : Part) → BecomesRule (closed (at s (written.repeated op p)))
   repeat_expanded s Star p = tt
   repeat_expanded s Plus p = tt
   repeat_expanded s Question p = tt
   repeat_expanded s (Times n) p = tt
 
+  becomes_rule : (s : Span) (k : Kind) → is_desugared k ≡ true → BecomesRule (closed (at s k))
+  becomes_rule s (written.group ps) h = tt
+  becomes_rule s (written.call n ps) h = tt
+  becomes_rule s (written.repeated op p) h = repeat_expanded s op p
+  becomes_rule s written.lookahead h = tt
+  becomes_rule s written.lookbehind h = tt
+  becomes_rule s _ h = absurd (cc h)
+
   many_scoped : (n : ℕ) (p : Part) → is_scoped rs [] p ≡ true → are_scoped rs [] (so_many n p) ≡ true
   many_scoped zero p h = refl
   many_scoped (suc n) p h = ap₂ ◌&&◌ h (many_scoped n p h)
 
-  mutual
-    met_made : (p : Part) → is_scoped rs [] p ≡ true → (q : Part) → In q (met p) → IsMade q
-    met_made (at s (written.group ps)) h q i = then_itself (at s (written.group ps)) (all_met ps) (h, tt) (all_met_made ps h) q i
-    met_made (at s (written.call n ps)) h q i =
-        then_itself (at s (written.call n ps)) (all_met ps) (h, tt)
-        (all_met_made ps (and_parts (is_macro_for ps (rule_named rs n)) (are_scoped rs [] ps) h).1) q i
-    met_made (at s (written.repeated op p)) h q i = then_itself (at s (written.repeated op p)) (met p) (h, repeat_expanded s op p) (met_made p h) q i
-    met_made (at s (written.chosen p)) h q i = met_made p h q i
-    met_made (at s (written.named n p)) h q i = met_made p h q i
-    met_made (at s (written.tupled ns p)) h q i = met_made p h q i
-    met_made (at s written.lookahead) h q i = then_itself (at s written.lookahead) [] (refl, tt) (λ r j. absurd j) q i
-    met_made (at s written.lookbehind) h q i = then_itself (at s written.lookbehind) [] (refl, tt) (λ r j. absurd j) q i
-    met_made (at s _) h q i = absurd i
-
-    all_met_made : (ps : Parts) → are_scoped rs [] ps ≡ true → (q : Part) → In q (all_met ps) → IsMade q
-    all_met_made no_parts h q i = absurd i
-    all_met_made (part_and p ps) h q i =
-        let both = and_parts (is_scoped rs [] p) (are_scoped rs [] ps) h in
-        elim (in_cases q (met p) (all_met ps) i) [
-          | inl j ↦ met_made p both.0 q j
-          | inr j ↦ all_met_made ps both.1 q j
-        ]
+  all_met_made : (ps : Parts) → are_scoped rs [] ps ≡ true → (q : Part) → In q (all_met ps) → IsMade q
+  all_met_made =
+      all_met_hold (λ p. is_scoped rs [] p ≡ true) IsMade (λ ps. are_scoped rs [] ps ≡ true) (λ p ps h. (and_parts (is_scoped rs [] p) (are_scoped rs [] ps) h).0)
+      (λ p ps h. (and_parts (is_scoped rs [] p) (are_scoped rs [] ps) h).1) (λ s k h. scoped_inside rs [] k h) (λ s k e h. (h, becomes_rule s k e))
 
   -- alternatives without arguments, whose names have a meaning
   abbrev pub AreScoped : List AlternativeData → Type 0

@@ -1,6 +1,6 @@
 -- What is in the grammar with levels reads as the bounded symbols with the names of their levels.
-use Rattle.std.proofs.Common.{◌≡◌, ℕ, ◌+◌, List, Option, Bool, true, false, ◌&&◌, refl, sym, ap, ap₂, ◌∙◌}
-use Rattle.std.specs.Prelude.{not, if◌then◌else◌}
+use Rattle.std.proofs.Common.{◌≡◌, ℕ, ◌+◌, List, Option, Bool, true, false, refl, sym, ap, ap₂, ◌∙◌}
+use Rattle.std.specs.Prelude.{if◌then◌else◌}
 use Rattle.std.proofs.lemmas.Bool.{and_parts}
 use Rattle.lalrpop_norm_tree_names.specs.declared.names.NonterminalString.{NonterminalString}
 use Rattle.lalrpop_norm_tree.specs.declared.symbol.RepeatOp.{RepeatOp}
@@ -9,12 +9,13 @@ use Rattle.lalrpop_norm_tree.specs.Symbols as written
 use Rattle.lalrpop_norm_tree.specs.Symbols.{Kind, Part, Parts, at, no_parts, part_and}
 use Rattle.lalrpop_norm_theory.specs.Symbols.{Name, chosen, named, tuple, ClosedSymbol, call, group, wrapped, symbol_and}
 use Rattle.lalrpop_norm_theory.specs.Leveled.{leveled_symbol, leveled_symbols}
-use Rattle.lalrpop_norm_model.specs.Scopes.{is_argument, Sense, resolved_kind, resolved_part, resolved_parts}
-use Rattle.lalrpop_norm_model.specs.WrittenRules.{WrittenRule, rule_named}
+use Rattle.lalrpop_norm_model.specs.Scopes.{Sense, resolved_kind, resolved_part, resolved_parts}
+use Rattle.lalrpop_norm_model.specs.WrittenRules.{WrittenRule}
 use Rattle.lalrpop_norm_model.specs.Occurrences.{count_part, count_parts}
 use Rattle.lalrpop_norm_model.specs.Reading.{Reader, closed_patterns_of, repeat_of, read_name, read_kind, read_part, read_parts}
-use Rattle.lalrpop_norm_model.specs.Scoped.{is_scoped_kind, is_scoped, are_scoped, is_macro_for}
+use Rattle.lalrpop_norm_model.specs.Scoped.{is_scoped_kind, is_scoped, are_scoped}
 use Rattle.lalrpop_norm_model.specs.LevelRules.{leveled_kind, leveled_part, leveled_parts, level_nonterminal}
+use Rattle.lalrpop_norm_model.proofs.ScopeLemmas.{scoped_inside}
 
 repeat_leveled : (l : Name → ℕ → Name) (op : RepeatOp) (x : ClosedSymbol) → leveled_symbol l (repeat_of op x) ≡ repeat_of op (leveled_symbol l x)
 repeat_leveled l Star x = refl
@@ -45,8 +46,7 @@ module _ (rs : List WrittenRule) (args : List NonterminalString) (l : Name → �
     kind_leveled before after b a (written.ambiguous_id n) h = absurd (cc h)
     kind_leveled before after b a (written.group ps) h = ap group (parts_leveled before after b a ps h)
     kind_leveled before after b a (written.call n ps) h =
-        let behind = (and_parts (not (is_argument args n)) (is_macro_for ps (rule_named rs n) && are_scoped rs args ps) h).1 in
-        ap (call n) (parts_leveled before after b a ps (and_parts (is_macro_for ps (rule_named rs n)) (are_scoped rs args ps) behind).1)
+        ap (call n) (parts_leveled before after b a ps (scoped_inside rs args (written.call n ps) h))
     kind_leveled before after b a (written.repeated op p) h =
         repeat_leveled l op (read_part R before after p) ∙ ap (repeat_of op) (part_leveled before after b a p h)
     kind_leveled before after b a (written.chosen p) h = ap (wrapped chosen) (part_leveled before after b a p h)
@@ -107,8 +107,7 @@ module _ (rs : List WrittenRule) (args : List NonterminalString) (sense : Name �
     kind_settled before after (written.ambiguous_id n) h = absurd (cc h)
     kind_settled before after (written.group ps) h = ap written.group (parts_settled before after ps h)
     kind_settled before after (written.call n ps) h =
-        let behind = (and_parts (not (is_argument args n)) (is_macro_for ps (rule_named rs n) && are_scoped rs args ps) h).1 in
-        ap (written.call n) (parts_settled before after ps (and_parts (is_macro_for ps (rule_named rs n)) (are_scoped rs args ps) behind).1)
+        ap (written.call n) (parts_settled before after ps (scoped_inside rs args (written.call n ps) h))
     kind_settled before after (written.repeated op p) h = ap (written.repeated op) (part_settled before after p h)
     kind_settled before after (written.chosen p) h = ap written.chosen (part_settled before after p h)
     kind_settled before after (written.named n p) h = ap (written.named n) (part_settled before after p h)

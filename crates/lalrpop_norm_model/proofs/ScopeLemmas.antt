@@ -8,6 +8,7 @@ use Rattle.lalrpop_norm_tree.specs.declared.symbol.RepeatOp.{RepeatOp}
 use Rattle.lalrpop_norm_tree.specs.declared.symbol.RepeatOp.TheVariants.{Star, Plus, Question, Times}
 use Rattle.lalrpop_norm_tree.specs.Symbols as written
 use Rattle.lalrpop_norm_tree.specs.Symbols.{Kind, Part, Parts, at, no_parts, part_and}
+use Rattle.lalrpop_norm_tree.specs.Traversal.{inner}
 use Rattle.lalrpop_norm_theory.specs.Symbols.{Name, ClosedSymbol, ClosedSymbols, reference, no_symbols, symbol_and}
 use Rattle.lalrpop_norm_theory.specs.Rounds.{In}
 use Rattle.lalrpop_norm_theory.specs.Met.{IsResolvedIn, AreResolvedIn, IsResolved}
@@ -18,10 +19,11 @@ use Rattle.lalrpop_norm_model.specs.Occurrences.{count_part, count_parts, first_
 use Rattle.lalrpop_norm_model.specs.Reading.{Reader, repeat_of, read_name, read_kind, read_part, read_parts}
 use Rattle.lalrpop_norm_model.specs.Grammars.{is_nil, has_arguments, level_within, is_within, bound_of, own_bound_in, rule_reader, rule_parts, previous_bound, bound_argument, arguments_fit, macro_reader, instance_parts, ConditionValue, meaning, rule_references, references}
 use Rattle.lalrpop_norm_theory.proofs.RoundsLemmas.{in_left, in_right}
-use Rattle.lalrpop_norm_model.specs.Scoped.{is_rule, is_scoped_kind, is_scoped, are_scoped, is_macro_for, IsScoped}
+use Rattle.lalrpop_norm_model.specs.Scoped.{is_rule, is_scoped_with, is_scoped_kind, is_scoped, are_scoped, is_macro_for, IsScoped}
 use Rattle.lalrpop_norm_model.specs.Laws.{MeaningsAreResolved}
 use Rattle.lalrpop_norm_model.proofs.LevelLemmas.{in_map, at_in, place_has_level, greatest_is, has_greatest, previous_is}
 use Rattle.lalrpop_norm_model.proofs.MeaningLemmas.{passing_of, lower_of, instance_of}
+use Rattle.lalrpop_norm_model.proofs.TraversalLemmas.{gathered_level}
 
 -- ---- lists
 
@@ -29,6 +31,28 @@ pub in_flat : {A B : Type 0} (f : A → List B) (x : A) (xs : List A) (y : B) �
 in_flat f x [] y h i = absurd h
 in_flat {A} f x (z ∷ xs) y (inl e) i = in_left y (f z) (flat_map f xs) (subst (λ (w : A). In y (f w)) e i)
 in_flat f x (z ∷ xs) y (inr h) i = in_right y (f z) (flat_map f xs) (in_flat f x xs y h i)
+
+-- ---- what is inside of symbols
+
+and_alone : (b : Bool) → (b && true) ≡ b
+and_alone true = refl
+and_alone false = refl
+
+module _ (rs : List WrittenRule) (args : List NonterminalString) where
+  scoped_within : (k : Kind) → is_scoped_with rs args k (are_scoped rs args (inner k)) ≡ true → are_scoped rs args (inner k) ≡ true
+  scoped_within (written.nonterminal n) h = refl
+  scoped_within (written.ambiguous_id a) h = refl
+  scoped_within (written.call n ps) h =
+      let behind = (and_parts (not (is_argument args n)) (is_macro_for ps (rule_named rs n) && are_scoped rs args ps) h).1 in
+      (and_parts (is_macro_for ps (rule_named rs n)) (are_scoped rs args ps) behind).1
+  scoped_within _ h = h
+
+  pub scoped_level : (k : Kind) → is_scoped_kind rs args k ≡ is_scoped_with rs args k (are_scoped rs args (inner k))
+  scoped_level = gathered_level (is_scoped_with rs args) true (λ x y. x && y) and_alone
+
+  -- where each name in a symbol has a meaning, so has each right inside of it
+  pub scoped_inside : (k : Kind) → is_scoped_kind rs args k ≡ true → are_scoped rs args (inner k) ≡ true
+  scoped_inside k h = scoped_within k (sym (scoped_level k) ∙ h)
 
 -- ---- rules by name
 
@@ -105,9 +129,7 @@ module _ (rs : List WrittenRule) (S : IsScoped rs) where
       kind_resolved before after (written.nonterminal n) h = named n before after h
       kind_resolved before after (written.ambiguous_id n) h = absurd (cc h)
       kind_resolved before after (written.group ps) h = parts_resolved before after ps h
-      kind_resolved before after (written.call n ps) h =
-          let behind = (and_parts (not (is_argument args n)) (is_macro_for ps (rule_named rs n) && are_scoped rs args ps) h).1 in
-          parts_resolved before after ps (and_parts (is_macro_for ps (rule_named rs n)) (are_scoped rs args ps) behind).1
+      kind_resolved before after (written.call n ps) h = parts_resolved before after ps (scoped_inside rs args (written.call n ps) h)
       kind_resolved before after (written.repeated op p) h = repeat_resolved op (read_part R before after p) (part_resolved before after p h)
       kind_resolved before after (written.chosen p) h = part_resolved before after p h
       kind_resolved before after (written.named n p) h = part_resolved before after p h

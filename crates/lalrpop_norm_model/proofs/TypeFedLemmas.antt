@@ -8,7 +8,7 @@ use Rattle.lalrpop_norm_tree_parts.specs.Reprs.{ReprData, Reprs}
 use Rattle.lalrpop_norm_tree.specs.Symbols.{Kind, terminal, nonterminal, error_terminal}
 use Rattle.lalrpop_norm_tree.specs.Types.{TypeData, TypesData, MaybeType, tuple, slice, nominal, reference, trait_object, of_lifetime, id, of_symbol, function, no_types, type_and, no_type, returns}
 use Rattle.lalrpop_norm_theory.specs.Rounds.{In, IsDistinct}
-use Rattle.lalrpop_norm_model.specs.Wrappers.{wrapped_kind}
+use Rattle.lalrpop_norm_tree.specs.Traversal.{wrapped_kind}
 use Rattle.lalrpop_norm_model.specs.PlainRules.{all_rules}
 use Rattle.lalrpop_norm_model.specs.Expanded.{rule_names}
 use Rattle.lalrpop_norm_model.specs.TypeRelation.{associated_of, IsRule, TypeClause, makes, locates, type_clauses}

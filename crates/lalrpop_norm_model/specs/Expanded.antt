@@ -17,7 +17,7 @@ use Rattle.lalrpop_norm_tree.specs.Types.{TypeData, TypesData, MaybeType, tuple,
 use Rattle.lalrpop_norm_tree.specs.Types.{of_lifetime, id, of_symbol, function, no_types, type_and, no_type, returns}
 use Rattle.lalrpop_norm_tree.specs.Types.{ParameterData}
 use Rattle.lalrpop_norm_theory.specs.Rounds.{In, IsDistinct}
-use Rattle.lalrpop_norm_model.specs.Wrappers.{wrapped_kind, wrapped_part}
+use Rattle.lalrpop_norm_tree.specs.Traversal.{wrapped_kind, wrapped_part}
 use Rattle.lalrpop_norm_model.specs.Features.{Features, is_active}
 use Rattle.lalrpop_norm_model.specs.PlainRules.{all_rules}
 use Rattle.lalrpop_norm_model.specs.Entries.{group_entries, user_names}

@@ -3,8 +3,8 @@ use Rattle.std.specs.Prelude.{ℕ, ◌+◌, Bool, List, [], ◌∷◌, ◌++◌,
 use Rattle.std.specs.Prelude.{if◌then◌else◌}
 use Rattle.lalrpop_norm_tree_names.specs.declared.names.Span.{Span}
 use Rattle.lalrpop_norm_tree_parts.specs.Attributes.{Attributes, no_attributes, attribute_and}
-use Rattle.lalrpop_norm_tree.specs.Symbols.{Kind, Part, Parts, group, ambiguous_id, terminal, nonterminal, call, repeated, chosen}
-use Rattle.lalrpop_norm_tree.specs.Symbols.{named, tupled, lookahead, lookbehind, error_terminal, at, no_parts, part_and}
+use Rattle.lalrpop_norm_tree.specs.Symbols.{Kind, Part, Parts, group, nonterminal, call, repeated, chosen, named, tupled}
+use Rattle.lalrpop_norm_tree.specs.Symbols.{at, no_parts, part_and}
 use Rattle.lalrpop_norm_tree.specs.Items.{AlternativeData, RuleData, ItemData, GrammarData, match_item, extern_item, intern_item}
 use Rattle.lalrpop_norm_tree.specs.Items.{rule_item, use_item}
 use Rattle.std.specs.Prelude.{bytes_eq, ◌&&◌}
@@ -30,11 +30,7 @@ abbrev mutual
   leveled_kind own level before after (chosen p) = chosen (leveled_part own level before after p)
   leveled_kind own level before after (named n p) = named n (leveled_part own level before after p)
   leveled_kind own level before after (tupled ns p) = tupled ns (leveled_part own level before after p)
-  leveled_kind own level before after (ambiguous_id a) = ambiguous_id a
-  leveled_kind own level before after (terminal t) = terminal t
-  leveled_kind own level before after lookahead = lookahead
-  leveled_kind own level before after lookbehind = lookbehind
-  leveled_kind own level before after error_terminal = error_terminal
+  leveled_kind own level before after k = k
 
   pub leveled_part : (List ℕ → Bool) → (ℕ → ℕ → Kind) → ℕ → ℕ → Part → Part
   leveled_part own level before after (at s k) = at s (leveled_kind own level before after k)

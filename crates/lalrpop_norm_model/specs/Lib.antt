@@ -1,10 +1,8 @@
 pub mod Features
-pub mod Wrappers
 pub mod Enabled
 pub mod Scopes
 pub mod Levels
 pub mod WrittenRules
-pub mod Gathered
 pub mod Occurrences
 pub mod Reading
 pub mod Grammars

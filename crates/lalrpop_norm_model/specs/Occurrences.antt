@@ -1,7 +1,7 @@
 -- Recursive occurrences (`own`): the references of a rule to itself, and the bound of each.
 use Rattle.std.specs.Prelude.{ℕ, zero, suc, ◌+◌, Bool, List, Option, unwrap_or, if◌then◌else◌}
 use Rattle.lalrpop_norm_tree.specs.Symbols.{Kind, Part, Parts, nonterminal}
-use Rattle.lalrpop_norm_model.specs.Gathered.{gathered_kind, gathered_part, gathered_parts}
+use Rattle.lalrpop_norm_tree.specs.Traversal.{gathered_kind, gathered_part, gathered_parts}
 use Rattle.lalrpop_norm_model.specs.Levels.{Side, left, right, neither, every}
 
 -- How many recursive occurrences a symbol holds, also in macro arguments, groups, repeats and wrapped symbols; `own` is the test

@@ -4,7 +4,7 @@ use Rattle.std.specs.Prelude.{Some, None}
 use Rattle.lalrpop_norm_tree_names.specs.declared.names.NonterminalString.{NonterminalString}
 use Rattle.lalrpop_norm_tree.specs.Symbols.{Kind, Part, Parts, ambiguous_id, nonterminal, call, no_parts, part_and}
 use Rattle.lalrpop_norm_theory.specs.Rounds.{In}
-use Rattle.lalrpop_norm_model.specs.Gathered.{gathered_kind, gathered_part, gathered_parts}
+use Rattle.lalrpop_norm_tree.specs.Traversal.{gathered_kind, gathered_part, gathered_parts}
 use Rattle.lalrpop_norm_model.specs.Scopes.{is_argument}
 use Rattle.lalrpop_norm_model.specs.Levels.{Leveled, levels_of}
 use Rattle.lalrpop_norm_model.specs.WrittenRules.{WrittenRule, rule_named}

@@ -11,7 +11,7 @@ use Rattle.lalrpop_norm_tree.specs.Symbols.{Kind, terminal, nonterminal, error_t
 use Rattle.lalrpop_norm_tree.specs.Types.{TypeData, TypesData, MaybeType, tuple, slice, nominal, reference, trait_object}
 use Rattle.lalrpop_norm_tree.specs.Types.{of_lifetime, id, of_symbol, function, no_types, type_and, no_type, returns}
 use Rattle.lalrpop_norm_theory.specs.Rounds.{In}
-use Rattle.lalrpop_norm_model.specs.Wrappers.{wrapped_kind}
+use Rattle.lalrpop_norm_tree.specs.Traversal.{wrapped_kind}
 use Rattle.lalrpop_norm_model.specs.TerminalTypes.{terminal_type, recovery_type, declared_location}
 use Rattle.lalrpop_norm_model.specs.TypeRelation.{associated_in, IsRule, TypeClause, makes, locates, type_clauses, Has}
 

@@ -147,13 +147,7 @@ module _ (value : ConditionValue) (fs : Features) (g : GrammarData) (N : HasLeve
   made_read (at s written.lookahead) _ e i k = absurd (cc e)
   made_read (at s written.lookbehind) lookbehind e i k = refl
   made_read (at s written.lookbehind) _ e i k = absurd (cc e)
-  made_read (at s (written.ambiguous_id a)) x e i k = absurd k
-  made_read (at s (written.terminal t)) x e i k = absurd k
-  made_read (at s (written.nonterminal n)) x e i k = absurd k
-  made_read (at s (written.chosen p)) x e i k = absurd k
-  made_read (at s (written.named n p)) x e i k = absurd k
-  made_read (at s (written.tupled ns p)) x e i k = absurd k
-  made_read (at s written.error_terminal) x e i k = absurd k
+  made_read (at s _) x e i k = absurd k
 
   all_read : (ps : List Part) (xs : List ClosedSymbol) → map closed ps ≡ map (leveled_symbol ln) xs →
       ((p : Part) → In p ps → (is_scoped (map flat_of (all_rules h)) [] p ≡ true) × BecomesRule (closed p)) →

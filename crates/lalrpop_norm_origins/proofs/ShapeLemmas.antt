@@ -4,7 +4,7 @@ use Rattle.std.specs.Prelude.{ℕ, flat_map, Option, Some, None, option_map, if�
 use Rattle.std.proofs.lemmas.List.{length-map, map-append}
 use Rattle.lalrpop_norm_tree_names.specs.declared.names.Span.{Span}
 use Rattle.lalrpop_norm_tree.specs.declared.symbol.RepeatOp.TheVariants.{Star, Plus, Question, Times}
-use Rattle.lalrpop_norm_tree.specs.Symbols.{Part, Parts, ambiguous_id, terminal, nonterminal, call, repeated, chosen, named, tupled, error_terminal, at}
+use Rattle.lalrpop_norm_tree.specs.Symbols.{Part, Parts, group, call, repeated, lookahead, lookbehind, at}
 use Rattle.lalrpop_norm_tree.specs.Items.{AlternativeData, RuleData, ItemData, GrammarData, rule_item, match_item, extern_item, intern_item, use_item}
 use Rattle.lalrpop_norm_theory.specs.Symbols.{Name}
 use Rattle.lalrpop_norm_theory.specs.LoweredTrees.{Origin}
@@ -158,14 +158,10 @@ module _ (value : ConditionValue) (macros : List RuleData) (found : Name → Opt
   shaped_made (at s (repeated Plus p)) = (refl, tt)
   shaped_made (at s (repeated Question p)) = (refl, tt)
   shaped_made (at s (repeated (Times n) p)) = (refl, tt)
-  shaped_made (at s (ambiguous_id a)) = tt
-  shaped_made (at s (terminal t)) = tt
-  shaped_made (at s (nonterminal n)) = tt
-  shaped_made (at s (chosen p)) = tt
-  shaped_made (at s (named n p)) = tt
-  shaped_made (at s (tupled ns p)) = tt
-  shaped_made (at s error_terminal) = tt
-  shaped_made (at s _) = (refl, tt)
+  shaped_made (at s (group ps)) = (refl, tt)
+  shaped_made (at s lookahead) = (refl, tt)
+  shaped_made (at s lookbehind) = (refl, tt)
+  shaped_made (at s _) = tt
 
   all_shaped : (ps : List Part) → IsShaped (map item_of (flat_map (made_rules value macros) ps)) (flat_map (made_origins value found) ps)
   all_shaped [] = tt

@@ -6,8 +6,7 @@ use Rattle.lalrpop_norm_theory.specs.LoweredTrees.{Origin, from_group, star_empt
 use Rattle.lalrpop_norm_theory.specs.LoweredTrees.{question_empty, from_times, from_lookahead, from_lookbehind}
 use Rattle.lalrpop_norm_tree.specs.declared.symbol.RepeatOp.{RepeatOp}
 use Rattle.lalrpop_norm_tree.specs.declared.symbol.RepeatOp.TheVariants.{Star, Plus, Question, Times}
-use Rattle.lalrpop_norm_tree.specs.Symbols.{Part, Parts, group, ambiguous_id, terminal, nonterminal, call, repeated, chosen, named}
-use Rattle.lalrpop_norm_tree.specs.Symbols.{tupled, lookahead, lookbehind, error_terminal, at}
+use Rattle.lalrpop_norm_tree.specs.Symbols.{Part, Parts, group, call, repeated, lookahead, lookbehind, at}
 use Rattle.lalrpop_norm_tree.specs.Items.{AlternativeData, RuleData, ItemData, GrammarData, rule_item, match_item, extern_item}
 use Rattle.lalrpop_norm_tree.specs.Items.{intern_item, use_item}
 use Rattle.lalrpop_norm_model.specs.Grammars.{ConditionValue, is_nil, is_true}
@@ -70,13 +69,7 @@ made_origins value macro (at s (call n ps)) = instance_origins value (macro n) p
 made_origins value macro (at s (repeated op p)) = repeat_origins op ∷ []
 made_origins value macro (at s lookahead) = (from_lookahead ∷ []) ∷ []
 made_origins value macro (at s lookbehind) = (from_lookbehind ∷ []) ∷ []
-made_origins value macro (at s (ambiguous_id a)) = []
-made_origins value macro (at s (terminal t)) = []
-made_origins value macro (at s (nonterminal n)) = []
-made_origins value macro (at s (chosen p)) = []
-made_origins value macro (at s (named n p)) = []
-made_origins value macro (at s (tupled ns p)) = []
-made_origins value macro (at s error_terminal) = []
+made_origins value macro (at s _) = []
 
 -- ---- the expanded grammar
 

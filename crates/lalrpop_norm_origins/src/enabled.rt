@@ -2,12 +2,12 @@
 ghost use Rattle.std.specs.Prelude.{◌≡◌, ◌++◌, IfOk, OnOk, map};
 ghost use Rattle.lalrpop_norm_tree.specs.Items.{alternative_view, rule_view, item_view, grammar_view};
 ghost use Rattle.lalrpop_norm_model.specs.Enabled.{if_active};
-ghost use Rattle.lalrpop_norm_session.specs.Sessions.{features_view};
+ghost use Rattle.lalrpop_norm_common.specs.Sessions.{features_view};
 ghost use Rattle.lalrpop_norm_origins.specs.Origins.{origins_view, origin_lists};
 ghost use Rattle.lalrpop_norm_origins.specs.EnabledOrigins.{places_from, enabled_rule_origins, enabled_item_origins, enabled_origins};
 
 use crate::origin::Origin;
-use lalrpop_norm_session::{Session, cfg_active};
+use lalrpop_norm_common::{Session, cfg_active};
 use lalrpop_norm_tree::grammar::parse_tree::{
     Alternative, Grammar, GrammarItem, NoMemory, NonterminalData, NonterminalString,
 };

@@ -1,7 +1,7 @@
 use Rattle.std.proofs.Common.{◌≡◌, ◌++◌, drop, map}
 use Rattle.std.specs.Prelude.{flat_map}
 use Rattle.lalrpop_norm_tree.specs.Items.{item_view}
-use Rattle.lalrpop_norm_session.specs.Sessions.{features_view}
+use Rattle.lalrpop_norm_common.specs.Sessions.{features_view}
 use Rattle.lalrpop_norm_origins.specs.Origins.{origin_lists}
 use Rattle.lalrpop_norm_origins.specs.EnabledOrigins.{enabled_item_origins}
 use Rattle.lalrpop_norm_origins.proofs.enabled.enabled_origins.Given as goal

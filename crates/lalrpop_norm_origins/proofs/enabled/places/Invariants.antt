@@ -1,7 +1,7 @@
 use Rattle.std.proofs.Common.{◌≡◌, ◌++◌, drop, map}
 use Rattle.lalrpop_norm_tree.specs.Items.{alternative_view}
 use Rattle.lalrpop_norm_model.specs.Enabled.{if_active}
-use Rattle.lalrpop_norm_session.specs.Sessions.{features_view}
+use Rattle.lalrpop_norm_common.specs.Sessions.{features_view}
 use Rattle.lalrpop_norm_origins.specs.Origins.{origins_view}
 use Rattle.lalrpop_norm_origins.specs.EnabledOrigins.{places_from}
 use Rattle.lalrpop_norm_origins.proofs.enabled.places.Given as goal
