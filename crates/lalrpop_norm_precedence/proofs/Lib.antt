@@ -3,7 +3,9 @@ mod ReadLemmas
 mod WalkLemmas
 mod ItemLemmas
 mod GroupLemmas
+mod BelowLemmas
 mod KindLemmas
+mod RepeatLemmas
 mod RuleLemmas
 pub mod UnleveledLemmas
 mod SeveralLemmas

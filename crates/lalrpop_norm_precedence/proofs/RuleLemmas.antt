@@ -1,10 +1,11 @@
 -- The rules that are made are the rules of the levels.
 use Rattle.std.proofs.Common.{◌≡◌, inl, inr, ℕ, suc, ◌<◌, ◌≤◌, List, [], ◌∷◌, ◌++◌, length, map, cond, Option, Some, None, Bool, true, false, Decides, refl, sym, ap, ap₂, ◌∙◌, subst, arith, append_assoc}
-use Rattle.std.specs.Prelude.{nat_eq, nat_lt, unwrap_or, if◌then◌else◌}
+use Rattle.std.specs.Prelude.{nat_eq, nat_lt, option_map, unwrap_or, if◌then◌else◌}
 use Rattle.std.proofs.lemmas.Bool.Decides.{Decides-eqb, Decides-ltb}
 use Rattle.std.proofs.lemmas.List.{length-map}
 use Rattle.lalrpop_norm_theory.specs.Rounds.{In}
 use Rattle.lalrpop_norm_tree.specs.Items.{AlternativeData, RuleData, alternative_view}
+use Rattle.lalrpop_norm_tree.specs.Symbols.{nonterminal}
 use Rattle.lalrpop_norm_model.specs.Enabled.{all_places, present}
 use Rattle.lalrpop_norm_model.specs.Levels.{Side, every, Leveled, greatest, greater, below, has_levels, with_levels, levels_of, highest_level, previous_level}
 use Rattle.lalrpop_norm_model.specs.Stated.{IsRising, level_after, side_after, handed_on}
@@ -93,37 +94,45 @@ module _ (r : RuleData) (ps : List (Option Leveled)) where
     attributes = without_level_attributes a.alternative.attributes;
   }
 
+  abbrev names_below : Option ℕ → Option (List ℕ)
+  names_below previous = option_map (level_of_rule r ps) previous
+
+  below_named : (previous : Option ℕ) (l : ℕ) → unwrap_or (names_below previous) (level_of_rule r ps l) ≡ level_of_rule r ps (unwrap_or previous l)
+  below_named None l = refl
+  below_named (Some m) l = refl
+
   alternative_made : (previous : Option ℕ) (l : ℕ) → previous_level ps l ≡ previous → (a : Leveled) → a.level ≡ l →
-      made_alternative r (highest_level ps) previous l a ≡ level_alternative r ps a
+      made_alternative r (level_of_rule r ps l) (names_below previous) a ≡ level_alternative r ps a
   unfolding made_alternative rewritten
   alternative_made previous l p a e =
-      ap (λ qs. record a.alternative { parts = qs; attributes = without_level_attributes a.alternative.attributes })
+      ap (λ n. rewritten r (nonterminal (level_of_rule r ps l)) (nonterminal n) a) (below_named previous l)
+      ∙ ap (λ qs. record a.alternative { parts = qs; attributes = without_level_attributes a.alternative.attributes })
       (by_bounds (is_own r) (level_of_rule r ps) a.side l previous a.alternative.parts)
       ∙ ap (with_parts a l) (sym p)
       ∙ ap (λ k. with_parts a k (previous_level ps k)) (sym e)
 
-  steps_made : (previous : Option ℕ) → made_steps r (highest_level ps) previous ≡ step_alternatives r ps previous
+  steps_made : (previous : Option ℕ) → made_steps r (names_below previous) ≡ step_alternatives r ps previous
   steps_made None = refl
   steps_made (Some l) = refl
 
   rule_made : (previous : Option ℕ) (l : ℕ) → previous_level ps l ≡ previous →
-      made_rule r (highest_level ps) previous l (of_level l (present ps)) ≡ level_rule r ps l
+      made_rule r (level_of_rule r ps l) (names_below previous) (of_level l (present ps)) ≡ level_rule r ps l
   unfolding made_rule
   rule_made previous l p =
       ap (λ xs. record r { name = record { 0 = level_of_rule r ps l }; alternatives = xs })
       (ap₂ ◌++◌
-      (same_alternatives (made_alternative r (highest_level ps) previous l) (level_alternative r ps) l (present ps) (alternative_made previous l p))
+      (same_alternatives (made_alternative r (level_of_rule r ps l) (names_below previous)) (level_alternative r ps) l (present ps) (alternative_made previous l p))
       (steps_made previous ∙ ap (step_alternatives r ps) (sym p)))
 
   rules_made : (front back : List ℕ) → levels_of ps ≡ front ++ back → IsRising (front ++ back) →
-      made_level_rules r (highest_level ps) (greatest front) (groups_at back (present ps)) ≡ map (level_rule r ps) back
+      made_level_rules r (highest_level ps) (names_below (greatest front)) (groups_at back (present ps)) ≡ map (level_rule r ps) back
   rules_made front [] e h = refl
   rules_made front (l ∷ back) e h =
       let on : (front ++ l ∷ []) ++ back ≡ front ++ l ∷ back = append_assoc front (l ∷ []) back in
       let same : previous_level ps l ≡ greatest front = ap (λ ls. greatest (below l ls)) e ∙ ap greatest (below_is_front l front back h) in
       let up : IsRising ((front ++ l ∷ []) ++ back) = subst IsRising (sym on) h in
       ap₂ ◌∷◌ (rule_made (greatest front) l same)
-      (ap (λ o. made_level_rules r (highest_level ps) o (groups_at back (present ps))) (sym (greatest_last front l (rising_front (front ++ l ∷ []) back up)))
+      (ap (λ o. made_level_rules r (highest_level ps) (names_below o) (groups_at back (present ps))) (sym (greatest_last front l (rising_front (front ++ l ∷ []) back up)))
       ∙ rules_made (front ++ l ∷ []) back (e ∙ sym on) up)
 
 -- ---- the rule
@@ -143,22 +152,24 @@ levels_at : (ls : List ℕ) (xs : List Leveled) → map (λ (g : LevelGroup). g.
 levels_at [] xs = refl
 levels_at (l ∷ ls) xs = ap (λ ms. l ∷ ms) (levels_at ls xs)
 
-steps_bare : (r : RuleData) (highest : ℕ) (o : Option ℕ) → made_steps (record r { alternatives = [] }) highest o ≡ made_steps r highest o
-steps_bare r highest None = refl
-steps_bare r highest (Some m) = refl
+steps_bare : (r : RuleData) (below : Option (List ℕ)) → made_steps (record r { alternatives = [] }) below ≡ made_steps r below
+steps_bare r None = refl
+steps_bare r (Some m) = refl
 
-rule_bare : (r : RuleData) (highest : ℕ) (previous : Option ℕ) (l : ℕ) (xs : List Leveled) →
-    made_rule (record r { alternatives = [] }) highest previous l xs ≡ made_rule r highest previous l xs
+rule_bare : (r : RuleData) (own : List ℕ) (below : Option (List ℕ)) (xs : List Leveled) →
+    made_rule (record r { alternatives = [] }) own below xs ≡ made_rule r own below xs
 unfolding made_rule made_alternative rewritten
-rule_bare r highest previous l xs =
-    ap (λ ys. record r { name = record { 0 = level_name r.name.0 highest l }; alternatives = map (made_alternative r highest previous l) xs ++ ys })
-    (steps_bare r highest previous)
+rule_bare r own below xs =
+    ap (λ ys. record r { name = record { 0 = own }; alternatives = map (made_alternative r own below) xs ++ ys })
+    (steps_bare r below)
 
 -- the alternatives of the head are no matter
-rules_bare : (r : RuleData) (highest : ℕ) (previous : Option ℕ) (gs : List LevelGroup) →
-    made_level_rules (record r { alternatives = [] }) highest previous gs ≡ made_level_rules r highest previous gs
-rules_bare r highest previous [] = refl
-rules_bare r highest previous (g ∷ gs) = ap₂ ◌∷◌ (rule_bare r highest previous g.0 g.1) (rules_bare r highest (Some g.0) gs)
+rules_bare : (r : RuleData) (highest : ℕ) (below : Option (List ℕ)) (gs : List LevelGroup) →
+    made_level_rules (record r { alternatives = [] }) highest below gs ≡ made_level_rules r highest below gs
+rules_bare r highest below [] = refl
+rules_bare r highest below (g ∷ gs) =
+    let own = level_name r.name.0 highest g.0 in
+    ap₂ ◌∷◌ (rule_bare r own below g.1) (rules_bare r highest (Some own) gs)
 
 pub level_rules_made : (r h : RuleData) (gs : List LevelGroup) → h ≡ record r { alternatives = [] } →
     gs ≡ grouped (marked_with (levels_and_sides r) r.alternatives) → has_levels (all_places r) ≡ true →

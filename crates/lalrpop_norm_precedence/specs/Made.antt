@@ -34,20 +34,21 @@ rewritten r current below a = record a.alternative {
   attributes = without_level_attributes a.alternative.attributes;
 }
 
-unfoldable pub made_alternative : RuleData → ℕ → Option ℕ → ℕ → Leveled → AlternativeData
-made_alternative r highest previous l a =
-    rewritten r (nonterminal (level_name r.name.0 highest l)) (nonterminal (level_name r.name.0 highest (unwrap_or previous l))) a
+-- the name of a level, and that of the level below, if there is one
+unfoldable pub made_alternative : RuleData → List ℕ → Option (List ℕ) → Leveled → AlternativeData
+made_alternative r own below a = rewritten r (nonterminal own) (nonterminal (unwrap_or below own)) a
 
-unfoldable pub made_rule : RuleData → ℕ → Option ℕ → ℕ → List Leveled → RuleData
-made_rule r highest previous l xs = record r {
-  name = record { 0 = level_name r.name.0 highest l };
-  alternatives = map (made_alternative r highest previous l) xs ++ made_steps r highest previous;
+unfoldable pub made_rule : RuleData → List ℕ → Option (List ℕ) → List Leveled → RuleData
+made_rule r own below xs = record r {
+  name = record { 0 = own };
+  alternatives = map (made_alternative r own below) xs ++ made_steps r below;
 }
 
 abbrev pub top_of : List LevelGroup → ℕ
 top_of gs = unwrap_or (greatest (map (λ (g : LevelGroup). g.0) gs)) 0
 
--- the level before the first of the groups is passed on
-abbrev pub made_level_rules : RuleData → ℕ → Option ℕ → List LevelGroup → List RuleData
-made_level_rules r highest previous [] = []
-made_level_rules r highest previous (g ∷ gs) = made_rule r highest previous g.0 g.1 ∷ made_level_rules r highest (Some g.0) gs
+-- the name of the level before the first of the groups is passed on
+abbrev pub made_level_rules : RuleData → ℕ → Option (List ℕ) → List LevelGroup → List RuleData
+made_level_rules r highest below [] = []
+made_level_rules r highest below (g ∷ gs) =
+    made_rule r (level_name r.name.0 highest g.0) below g.1 ∷ made_level_rules r highest (Some (level_name r.name.0 highest g.0)) gs

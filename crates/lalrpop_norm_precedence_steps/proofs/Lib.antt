@@ -1,4 +1,3 @@
 mod FirstLemmas
-pub mod EnabledLemmas
 pub mod ReadingLemmas
 mod LowestLemmas

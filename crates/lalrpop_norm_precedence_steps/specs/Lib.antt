@@ -5,5 +5,4 @@ pub mod StatedLevels
 pub mod Substitutions
 pub mod Steps
 pub mod OtherItems
-pub mod EnabledAlternatives
 pub mod Laws

@@ -4,7 +4,6 @@
 
 pub mod assoc;
 pub mod attributes;
-pub mod enabled;
 pub mod items;
 pub mod laws;
 pub mod levels;

@@ -1,5 +1,5 @@
 //! Names of levels, and the step from a level to the one below.
-ghost use Rattle.std.specs.Prelude.{◌≡◌, ◌++◌, IfOk, OnOk, map};
+ghost use Rattle.std.specs.Prelude.{◌≡◌, ◌++◌, IfOk, OnOk, map, option_map};
 ghost use Rattle.lalrpop_norm_tree.specs.Items.{alternative_view, rule_view};
 ghost use Rattle.lalrpop_norm_model.specs.ClosedTexts.{level_name};
 ghost use Rattle.lalrpop_norm_model.specs.LevelRules.{step_alternative};
@@ -27,22 +27,20 @@ pub fn level_name(
     Ok(NonterminalString(Atom::new(alloc, &text)?))
 }
 
-/// Adds the step to the level below, if there is one, behind the alternatives of a level.
+/// Adds the step to the level below, by its name, if there is one, behind the alternatives of a level.
 pub fn push_step(
     alloc: Global,
     head: &NonterminalData,
-    highest: u32,
-    previous: Option<u32>,
+    below: Option<&NonterminalString>,
     alternatives: &mut Vec<Alternative>,
 ) -> Result<(), NoMemory>
     ensures { OnOk result (map alternative_view alternatives.new.items
-        ≡ map alternative_view alternatives.old.items ++ made_steps (rule_view head.now) highest previous) }
+        ≡ map alternative_view alternatives.old.items ++ made_steps (rule_view head.now) (option_map (λ n. n.now.0) below.entry)) }
 {
-    match previous {
+    match below {
         None => Ok(()),
-        Some(level) => {
-            let name = level_name(alloc, &head.name, highest, level)?;
-            alternatives.push(step_alternative(alloc, head.span, name)?)?;
+        Some(name) => {
+            alternatives.push(step_alternative(alloc, head.span, name.clone()?)?)?;
             Ok(())
         }
     }

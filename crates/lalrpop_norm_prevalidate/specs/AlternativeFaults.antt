@@ -1,22 +1,20 @@
 -- The faults of an alternative, in visiting order: its symbols, its attributes, its code.
-use Rattle.std.specs.Prelude.{ℕ, List, [], ◌∷◌, ◌++◌, Option, Some, None}
+use Rattle.std.specs.Prelude.{ℕ, List, [], ◌∷◌, ◌++◌, Option, Some, None, option_map}
 use Rattle.lalrpop_norm_tree_names.specs.declared.names.Span.{Span}
-use Rattle.lalrpop_norm_tree.specs.Accessors.{or_else}
+use Rattle.lalrpop_norm_tree.specs.Accessors.{or_else, binding_of}
 use Rattle.lalrpop_norm_tree.specs.Items.{Action, user_code, fallible_code, lookahead_code, lookbehind_code, AlternativeData}
-use Rattle.lalrpop_norm_tree.specs.Symbols.{Kind, named, tupled, at, Parts, no_parts, part_and}
+use Rattle.lalrpop_norm_tree.specs.Symbols.{Kind, at, Parts, no_parts, part_and}
 use Rattle.lalrpop_norm_faults.specs.declared.kind.FaultKind.TheVariants.{NamedWithoutAction}
 use Rattle.lalrpop_norm_faults.specs.declared.kind.FaultKind.TheVariants.{AnonymousInBraces, WrittenLookaround}
 use Rattle.lalrpop_norm_faults.specs.Faults.{Fault, fault_if}
 use Rattle.lalrpop_norm_prevalidate.specs.declared.prevalidate.Surroundings.{Surroundings}
-use Rattle.lalrpop_norm_session.specs.Braces.{presence, is_in_braces}
+use Rattle.lalrpop_norm_common.specs.Braces.{presence, is_in_braces}
 use Rattle.lalrpop_norm_prevalidate_attributes.specs.AttributeFaults.{alternative_attributes_faults}
 use Rattle.lalrpop_norm_prevalidate.specs.SymbolFaults.{list_faults}
 use Rattle.lalrpop_norm_model.specs.MadeRules.{span_of}
 
 abbrev pub place_inside : Kind → Option Span
-place_inside (named n p) = Some (span_of p)
-place_inside (tupled ps p) = Some (span_of p)
-place_inside k = None
+place_inside k = option_map (λ b. span_of b.1) (binding_of k)
 
 abbrev pub first_inside : Parts → Option Span
 first_inside no_parts = None

@@ -1,19 +1,21 @@
 -- The faults of symbols, in visiting order.
 use Rattle.std.specs.Prelude.{ℕ, Bool, true, false, List, [], ◌∷◌, ◌++◌, Option, Some, None, bytes_eq, is_some}
-use Rattle.std.specs.Prelude.{option_map, if◌then◌else◌}
+use Rattle.std.specs.Prelude.{option_and_then, option_map, if◌then◌else◌}
 use Rattle.std.specs.Ordering.{is_lt, nat_cmp}
 use Rattle.std.specs.Cmp.Lexicographic.{slice_cmp}
 use Rattle.lalrpop_norm_tree_names.specs.declared.names.Span.{Span}
 use Rattle.lalrpop_norm_tree_names.specs.declared.names.TerminalString.{TerminalString}
 use Rattle.lalrpop_norm_tree_names.specs.declared.names.TerminalString.TheVariants.{Literal, Bare, Error}
-use Rattle.lalrpop_norm_tree.specs.Symbols.{Kind, group, terminal, call, named, lookahead, lookbehind, error_terminal}
+use Rattle.lalrpop_norm_tree.specs.Accessors.{binding_of}
+use Rattle.lalrpop_norm_tree.specs.Symbols.{ArgumentPattern, one_name, several}
+use Rattle.lalrpop_norm_tree.specs.Symbols.{Kind, group, terminal, call, lookahead, lookbehind, error_terminal}
 use Rattle.lalrpop_norm_tree.specs.Symbols.{Part, at, Parts, no_parts, part_and}
 use Rattle.lalrpop_norm_tree.specs.Traversal.{fold_kind, fold_part, fold_parts}
 use Rattle.lalrpop_norm_faults.specs.declared.kind.FaultKind.TheVariants.{ErrorWithAscent, MacroWithoutArguments, NoLocation}
 use Rattle.lalrpop_norm_faults.specs.declared.kind.FaultKind.TheVariants.{WrittenErrorTerminal, ChosenWithNamed, NameTwice}
 use Rattle.lalrpop_norm_prevalidate.specs.declared.prevalidate.Surroundings.{Surroundings}
 use Rattle.lalrpop_norm_faults.specs.Faults.{Fault, fault_if}
-use Rattle.lalrpop_norm_session.specs.Values.{is_chosen_kind}
+use Rattle.lalrpop_norm_common.specs.Values.{is_chosen_kind}
 
 -- a call without arguments
 unfoldable pub call_faults : Span → Parts → List Fault
@@ -25,9 +27,12 @@ terminal_faults s (Literal l) = []
 terminal_faults s (Bare n) = []
 terminal_faults s Error = (WrittenErrorTerminal, s) ∷ []
 
+abbrev pub name_in : ArgumentPattern → Option (List ℕ)
+name_in (one_name n) = Some n.name
+name_in (several ns) = None
+
 abbrev pub name_of : Kind → Option (List ℕ)
-name_of (named n p) = Some n.name
-name_of k = None
+name_of k = option_and_then (λ b. name_in b.0) (binding_of k)
 
 -- the first selected symbol
 abbrev pub first_chosen : Parts → Option Span

@@ -3,18 +3,18 @@ ghost use Rattle.std.specs.Prelude.{◌≡◌, [], IfOk, IsOkAnd, map, filter, o
 ghost use Rattle.lalrpop_norm_faults.specs.Faults.{RefusesOr};
 ghost use Rattle.lalrpop_norm_tree.specs.Items.{conversion_view, enum_token_view, item_view, grammar_view};
 ghost use Rattle.lalrpop_norm_model.specs.Enabled.{enabled_enum, enabled_grammar};
-ghost use Rattle.lalrpop_norm_session.specs.Sessions.{features_view};
+ghost use Rattle.lalrpop_norm_common.specs.Sessions.{features_view};
 ghost use Rattle.lalrpop_norm_origins.specs.Origins.{origin_lists};
 ghost use Rattle.lalrpop_norm_origins.specs.Shapes.{IsShaped};
 ghost use Rattle.lalrpop_norm_origins.specs.EnabledOrigins.{enabled_origins};
 ghost use Rattle.lalrpop_norm_prevalidate.specs.EnabledItems.{active_conversions, stays, trimmed};
 
+use lalrpop_norm_common::Session;
+pub use lalrpop_norm_common::cfg_active;
 use lalrpop_norm_faults::NormResult;
 pub use lalrpop_norm_origins::Origin;
 use lalrpop_norm_origins::enabled_origins;
-use lalrpop_norm_precedence_steps::enabled::retain_alternatives;
-use lalrpop_norm_session::Session;
-pub use lalrpop_norm_session::cfg_active;
+use lalrpop_norm_prevalidate_attributes::enabled::retain_alternatives;
 use lalrpop_norm_tree::grammar::parse_tree::{Conversion, EnumToken, Grammar, GrammarItem};
 use std::alloc::Global;
 

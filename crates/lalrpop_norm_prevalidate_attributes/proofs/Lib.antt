@@ -1,1 +1,2 @@
 pub mod EmptyLemmas
+pub mod EnabledLemmas

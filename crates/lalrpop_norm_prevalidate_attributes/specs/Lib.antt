@@ -1,2 +1,3 @@
 pub mod CfgFaults
 pub mod AttributeFaults
+pub mod EnabledAlternatives

@@ -15,7 +15,7 @@ use Rattle.lalrpop_norm_faults.specs.declared.kind.FaultKind.TheVariants.{NoMapp
 use Rattle.lalrpop_norm_model.specs.Terminals.{same_literal}
 use Rattle.lalrpop_norm_model.specs.Entries.{entry_in, own_mapping, entry_cmp}
 use Rattle.lalrpop_norm_model.specs.LexerFaults.{place_if}
-use Rattle.lalrpop_norm_session.specs.Uses.{Use}
+use Rattle.lalrpop_norm_common.specs.Uses.{Use}
 use Rattle.lalrpop_norm_token_check.specs.Keys.{terminal_in, place_by}
 use Rattle.lalrpop_norm_token_check.specs.Found.{FoundData, lacks_entry, with_added, with_terminal, uses_faults, with_uses}
 use Rattle.lalrpop_norm_token_check.proofs.KeyLemmas.{named_more, place_more, in_inserted, kept_inserted, exact_entries}

@@ -11,7 +11,7 @@ use Rattle.lalrpop_norm_model.specs.TokenFaults.{checked_enum_faults, entry_faul
 use Rattle.lalrpop_norm_model.specs.LexerFaults.{LexerPlace, at_lexer, StandsAtLexer, token_findings, token_findings_with}
 use Rattle.lalrpop_norm_token_check.specs.Checked.{IsLexerRefusal, GetsTokens}
 use Rattle.lalrpop_norm_token_check.specs.Converted.{converted_faults}
-use Rattle.lalrpop_norm_session.specs.Uses.{Use}
+use Rattle.lalrpop_norm_common.specs.Uses.{Use}
 
 module _ {R : Type 0} (l : Lexer R) (g : GrammarData) where
   pub first_is_told : (fs : List Fault) (e : NormFailure) → IsFirst fs e → IsTold (StandsAtLexer l g) (map sure fs) e

@@ -19,10 +19,10 @@ use Rattle.lalrpop_norm_model.specs.LexerFaults.{place_if}
 use Rattle.lalrpop_norm_token_check.specs.Found.{FoundData, IsOrdered, lacks_entry, with_block, found_faults, all_found}
 use Rattle.lalrpop_norm_token_check.specs.Checked.{ArePlaced, ArePlacesOf, HasFound}
 use Rattle.lalrpop_norm_token_check.proofs.FoundLemmas.{block_same, block_names, block_entries_are, block_has_entries, block_places, block_placed}
-use Rattle.lalrpop_norm_session.specs.Uses.{Use}
+use Rattle.lalrpop_norm_common.specs.Uses.{Use}
 use Rattle.lalrpop_norm_token_check.proofs.AddedLemmas.{IsAdded, uses_same, uses_places, uses_entries_are, uses_have_entries, uses_placed}
 use Rattle.lalrpop_norm_theory.proofs.ListLemmas.{flat_same}
-use Rattle.lalrpop_norm_session.proofs.UsedLemmas.{terminals_are_used}
+use Rattle.lalrpop_norm_common.proofs.UsedLemmas.{terminals_are_used}
 use Rattle.lalrpop_norm_model.proofs.SameTerminalLemmas.{literal_itself, terminals_same}
 
 -- ---- faults

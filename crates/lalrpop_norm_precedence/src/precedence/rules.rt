@@ -1,12 +1,11 @@
 //! The rules of the levels of a rule.
-ghost use Rattle.std.specs.Prelude.{◌≡◌, None, IfOk, OnOk, map};
+ghost use Rattle.std.specs.Prelude.{◌≡◌, None, IfOk, OnOk, map, option_map};
 ghost use Rattle.lalrpop_norm_tree_parts.specs.Attributes.{attributes_view};
 ghost use Rattle.lalrpop_norm_tree.specs.Items.{alternative_view, rule_view};
 ghost use Rattle.lalrpop_norm_tree.specs.Symbols.{nonterminal, kind_view, parts_view};
 ghost use Rattle.lalrpop_norm_faults.specs.Faults.{RefusesOr};
 ghost use Rattle.lalrpop_norm_model.specs.Levels.{greater, greatest};
 ghost use Rattle.lalrpop_norm_model.specs.Grammars.{is_nil};
-ghost use Rattle.lalrpop_norm_model.specs.ClosedTexts.{level_name};
 ghost use Rattle.lalrpop_norm_model.specs.LevelRules.{leveled_parts, is_own, level_rules};
 ghost use Rattle.lalrpop_norm_precedence_steps.specs.LevelFaults.{level_faults};
 ghost use Rattle.lalrpop_norm_precedence.specs.Occurrences.{is_target};
@@ -74,7 +73,9 @@ fn greater(level: u32, other: Option<u32>) -> u32
     }
 }
 
-/// The rules of the groups, with the head of a rule whose alternatives are taken out.
+/// The rules of the groups, with the head of a rule whose alternatives are taken out. The name of each level is generated here,
+/// once.
+#[tactic(auto, using(crate::proofs::BelowLemmas::name_lent))]
 fn made_rules(
     alloc: Global,
     head: &NonterminalData,
@@ -85,11 +86,11 @@ fn made_rules(
 {
     let highest = greatest(&groups).unwrap_or(0);
     let mut rules = Vec::new(alloc);
-    let mut previous = None;
+    let mut below: Option<NonterminalString> = None;
     for group in groups {
-        let level = group.level;
-        rules.push(made_rule(alloc, head, highest, previous, group)?)?;
-        previous = Some(level);
+        let own = level_name(alloc, &head.name, highest, group.level)?;
+        rules.push(made_rule(alloc, head, &own, below.as_ref(), group.alternatives)?)?;
+        below = Some(own);
     }
     Ok(rules)
 }
@@ -98,58 +99,45 @@ fn made_rules(
 fn made_rule(
     alloc: Global,
     head: &NonterminalData,
-    highest: u32,
-    previous: Option<u32>,
-    group: Group,
+    own: &NonterminalString,
+    below: Option<&NonterminalString>,
+    marked: Vec<Marked>,
 ) -> Result<NonterminalData, NoMemory>
     ensures { IfOk result (λ r. rule_view r
-        ≡ made_rule (rule_view head.now) highest previous group.level (map marked_view group.alternatives.items)) }
+        ≡ made_rule (rule_view head.now) own.now.0 (option_map (λ n. n.now.0) below.entry) (map marked_view marked.items)) }
 {
-    let level = group.level;
-    let name = level_name(alloc, &head.name, highest, level)?;
-    let mut alternatives = made_alternatives(
-        alloc,
-        head,
-        highest,
-        previous,
-        level,
-        group.alternatives,
-    )?;
-    push_step(alloc, head, highest, previous, &mut alternatives)?;
+    let mut alternatives = made_alternatives(alloc, head, own, below, marked)?;
+    push_step(alloc, head, below, &mut alternatives)?;
     let mut rule = head.clone()?;
-    rule.name = name;
+    rule.name = own.clone()?;
     rule.alternatives = alternatives;
     Ok(rule)
 }
 
-fn level_kind(
-    alloc: Global,
-    name: &NonterminalString,
-    highest: u32,
-    level: u32,
-) -> Result<SymbolKind, NoMemory>
-    ensures { IfOk result (λ k. kind_view k ≡ nonterminal (level_name name.now.0 highest level)) }
+#[tactic(auto, using(lalrpop_norm_tree::proofs::SymbolViews::nonterminal_seen))]
+fn kind_named(name: &NonterminalString) -> Result<SymbolKind, NoMemory>
+    ensures { IfOk result (λ k. kind_view k ≡ nonterminal name.now.0) }
 {
-    Ok(SymbolKind::Nonterminal(level_name(alloc, name, highest, level)?))
+    Ok(SymbolKind::Nonterminal(name.clone()?))
 }
 
-#[tactic(auto, unfolding(crate::specs::Made::made_alternative))]
+#[tactic(auto, unfolding(crate::specs::Made::made_alternative), using(crate::proofs::BelowLemmas::name_or_own))]
 fn made_alternatives(
     alloc: Global,
     head: &NonterminalData,
-    highest: u32,
-    previous: Option<u32>,
-    level: u32,
+    own: &NonterminalString,
+    below: Option<&NonterminalString>,
     marked: Vec<Marked>,
 ) -> Result<Vec<Alternative>, NoMemory>
     ensures { IfOk result (λ alternatives. map alternative_view alternatives.items
-        ≡ map (made_alternative (rule_view head.now) highest previous level) (map marked_view marked.items)) }
+        ≡ map (made_alternative (rule_view head.now) own.now.0 (option_map (λ n. n.now.0) below.entry))
+        (map marked_view marked.items)) }
 {
-    let current = level_kind(alloc, &head.name, highest, level)?;
-    let below = level_kind(alloc, &head.name, highest, previous.unwrap_or(level))?;
+    let current = kind_named(own)?;
+    let lower = kind_named(below.unwrap_or(own))?;
     let mut alternatives = Vec::with_capacity(alloc, marked.len())?;
     for alternative in marked {
-        alternatives.push(made_alternative(head, &current, &below, alternative)?)?;
+        alternatives.push(made_alternative(head, &current, &lower, alternative)?)?;
     }
     Ok(alternatives)
 }

@@ -8,9 +8,9 @@ ghost use Rattle.lalrpop_norm_prevalidate.specs.AlternativeFaults.{action_faults
 
 use super::Surroundings;
 use super::symbols::validate_list;
+use lalrpop_norm_common::norm_util::check_between_braces;
 use lalrpop_norm_faults::{FaultKind, NormResult, refusal};
 use lalrpop_norm_prevalidate_attributes::alternatives::validate_attributes;
-use lalrpop_norm_session::norm_util::check_between_braces;
 use lalrpop_norm_tree::grammar::parse_tree::{ActionKind, Alternative, Span, Symbol, SymbolKind};
 use std::alloc::Global;
 
@@ -32,19 +32,9 @@ pub(super) fn validate_alternative(
 fn inside_of(kind: &SymbolKind) -> Option<Span>
     ensures { result ≡ place_inside (kind_view kind.now) }
 {
-    match kind {
-        SymbolKind::Name(_, symbol) => Some(symbol.span),
-        SymbolKind::Tuple(_, symbol) => Some(symbol.span),
-        SymbolKind::Expr(_)
-        | SymbolKind::AmbiguousId(_)
-        | SymbolKind::Terminal(_)
-        | SymbolKind::Nonterminal(_)
-        | SymbolKind::Macro(_)
-        | SymbolKind::Repeat(_)
-        | SymbolKind::Choose(_)
-        | SymbolKind::Lookahead
-        | SymbolKind::Lookbehind
-        | SymbolKind::Error => None,
+    match kind.as_bound() {
+        Some((_, symbol)) => Some(symbol.span),
+        None => None,
     }
 }
 

@@ -10,10 +10,10 @@ ghost use Rattle.lalrpop_norm_prevalidate.specs.SymbolFaults.{named_at, placed, 
 ghost use Rattle.lalrpop_norm_tree.specs.Symbols.{kind_view, symbol_view, parts_view};
 
 use super::Surroundings;
+use lalrpop_norm_common::norm_util::is_chosen_kind;
 use lalrpop_norm_faults::{FaultKind, NormResult, refusal};
-use lalrpop_norm_session::norm_util::is_chosen_kind;
 use lalrpop_norm_tree::grammar::parse_tree::{
-    Atom, NoMemory, Span, Symbol, SymbolKind, TerminalString,
+    Atom, Binding, NoMemory, Span, Symbol, SymbolKind, TerminalString,
 };
 use std::alloc::Global;
 use std::collections::BTreeMap;
@@ -159,19 +159,9 @@ fn validate_beside(alloc: Global, symbols: &[Symbol]) -> NormResult<()>
 fn name_of(kind: &SymbolKind) -> Option<&Atom>
     ensures { option_map (λ a. a.now) result ≡ name_of (kind_view kind.now) }
 {
-    match kind {
-        SymbolKind::Name(name, _) => Some(&name.name),
-        SymbolKind::Expr(_)
-        | SymbolKind::AmbiguousId(_)
-        | SymbolKind::Terminal(_)
-        | SymbolKind::Nonterminal(_)
-        | SymbolKind::Macro(_)
-        | SymbolKind::Repeat(_)
-        | SymbolKind::Choose(_)
-        | SymbolKind::Tuple(_, _)
-        | SymbolKind::Lookahead
-        | SymbolKind::Lookbehind
-        | SymbolKind::Error => None,
+    match kind.as_bound() {
+        Some((Binding::Name(name), _)) => Some(&name.name),
+        Some((Binding::Tuple(_), _)) | None => None,
     }
 }
 
@@ -238,18 +228,10 @@ fn lesser<'a>(
     ensures { option_map (λ r. (r.0.now, r.1)) result
         ≡ lesser_name (option_map (λ r. (r.0.now, r.1)) earlier.entry) (option_map (λ r. (r.0.now, r.1)) later.entry) }
 {
-    match earlier {
-        None => later,
-        Some(first) => match later {
-            None => Some(first),
-            Some(second) => {
-                if second.0 < first.0 {
-                    Some(second)
-                } else {
-                    Some(first)
-                }
-            }
-        },
+    match (earlier, later) {
+        (None, found) => found,
+        (Some(first), None) => Some(first),
+        (Some(first), Some(second)) => Some(if second.0 < first.0 { second } else { first }),
     }
 }
 

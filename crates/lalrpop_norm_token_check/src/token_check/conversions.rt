@@ -9,8 +9,8 @@ ghost use Rattle.lalrpop_norm_token_check.specs.Converted.{twice_from, converted
 ghost use Rattle.lalrpop_norm_token_check.specs.Keys.{with_keys, terminal_in};
 
 use super::found::add_name;
+use lalrpop_norm_common::uses::Use;
 use lalrpop_norm_faults::{FaultKind, NormResult, refusal};
-use lalrpop_norm_session::uses::Use;
 use lalrpop_norm_tree::grammar::parse_tree::{Conversion, EnumToken, Span, TerminalString};
 use std::alloc::Global;
 use std::collections::BTreeSet;

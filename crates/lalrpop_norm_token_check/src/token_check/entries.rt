@@ -7,9 +7,9 @@ ghost use Rattle.lalrpop_norm_token_check.specs.Found.{uses_faults, with_uses, f
 
 use super::found::{Found, add_entry, own_mapping};
 use super::matches::add_block;
+use lalrpop_norm_common::match_block::catch_all_of;
+use lalrpop_norm_common::uses::Use;
 use lalrpop_norm_faults::{FaultKind, NormFailure, NormResult, refusal};
-use lalrpop_norm_session::match_block::catch_all_of;
-use lalrpop_norm_session::uses::Use;
 use lalrpop_norm_tree::grammar::parse_tree::{
     MatchToken, NoMemory, Span, TerminalLiteral, TerminalString,
 };

@@ -1,7 +1,7 @@
 use Rattle.std.proofs.Common.{◌≡◌, List, length, map, ap, sym, ◌∙◌, arith}
 use Rattle.std.proofs.lemmas.List.{with_items_is}
 use Rattle.lalrpop_norm_tree.specs.Items.{ItemData, item_view, grammar_view}
-use Rattle.lalrpop_norm_session.specs.Sessions.{features_view}
+use Rattle.lalrpop_norm_common.specs.Sessions.{features_view}
 use Rattle.lalrpop_norm_prevalidate.specs.EnabledItems.{trimmed}
 use Rattle.lalrpop_norm_prevalidate.proofs.EnabledLemmas.{items_enabled}
 use Rattle.lalrpop_norm_prevalidate.proofs.cond_comp.remove_disabled_decls.Goals as goal

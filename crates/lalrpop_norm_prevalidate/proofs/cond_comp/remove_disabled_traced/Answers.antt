@@ -1,7 +1,7 @@
 use Rattle.std.proofs.Common.{List, sym, subst}
 use Rattle.lalrpop_norm_theory.specs.LoweredTrees.{Origin}
 use Rattle.lalrpop_norm_tree.specs.Items.{GrammarData, grammar_view}
-use Rattle.lalrpop_norm_session.specs.Sessions.{features_view}
+use Rattle.lalrpop_norm_common.specs.Sessions.{features_view}
 use Rattle.lalrpop_norm_origins.specs.Shapes.{IsShaped}
 use Rattle.lalrpop_norm_origins.specs.EnabledOrigins.{enabled_origins}
 use Rattle.lalrpop_norm_origins.proofs.ShapeLemmas.{shaped_enabled}

@@ -3,8 +3,8 @@ use Rattle.std.specs.Prelude.{map}
 use Rattle.std.proofs.lemmas.Fn.{filter_same}
 use Rattle.lalrpop_norm_tree.specs.Items.{item_view}
 use Rattle.lalrpop_norm_prevalidate.specs.EnabledItems.{stays}
-use Rattle.lalrpop_norm_session.specs.Sessions.{features_view}
-use Rattle.lalrpop_norm_precedence_steps.proofs.EnabledLemmas.{filter_viewed}
+use Rattle.lalrpop_norm_common.specs.Sessions.{features_view}
+use Rattle.lalrpop_norm_prevalidate_attributes.proofs.EnabledLemmas.{filter_viewed}
 use Rattle.lalrpop_norm_prevalidate.proofs.cond_comp.retain_items.Goals as goal
 
 pub returns : goal.returns

@@ -5,6 +5,8 @@ use Rattle.lalrpop_norm_precedence_steps.specs.declared.occurrences.Direction.Th
 use Rattle.lalrpop_norm_precedence_steps.specs.Substitutions.{Plan, met_kind}
 use Rattle.lalrpop_norm_precedence.specs.Occurrences.{is_target, once_met}
 use Rattle.lalrpop_norm_precedence.proofs.WalkLemmas.{forward_value, forward_plan, backward_value, backward_plan, forward_end, backward_end, planned_parts, count_one_by_one, forward_none, backward_none}
+use Rattle.lalrpop_norm_precedence.specs.Replacing.{is_own_of, becomes}
+use Rattle.lalrpop_norm_precedence.proofs.RepeatLemmas.{repeat_replaced}
 use Rattle.lalrpop_norm_precedence.proofs.precedence.replace.+replace.Goals as goal
 
 pub replace_symbols-forward-preserved : goal.replace_symbols-forward-preserved
@@ -71,3 +73,7 @@ replace_symbols-returns-after-backward-clause-met t c =
     let own = is_target c.args.replacing.target.now.0 in
     sym (backward_none own c.backward.left c.backward.symbols c.backward.i (omega arith)) ∙ c.backward.invariant.left ∙
     ap (once_met c.args.replacing.is_met) (sym (count_one_by_one own (map symbol_view c.args.symbols.now)))
+
+pub replace_kind-returns-in-Repeat-clause-value : goal.replace_kind-returns-in-Repeat-clause-value
+replace_kind-returns-in-Repeat-clause-value t c =
+    repeat_replaced (is_own_of c.args.replacing) (becomes c.args.replacing) _ _ _ _ c.in-Repeat.is c.replace_repeat.ensures.value

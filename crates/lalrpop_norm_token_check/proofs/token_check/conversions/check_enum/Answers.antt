@@ -5,7 +5,7 @@ use Rattle.lalrpop_norm_tree.specs.Items.{conversion_view}
 use Rattle.lalrpop_norm_faults.specs.Faults.{Fault, Refuses, fault_if}
 use Rattle.lalrpop_norm_faults.specs.declared.kind.FaultKind.TheVariants.{NoPattern}
 use Rattle.lalrpop_norm_token_check.specs.Converted.{unconverted_faults}
-use Rattle.lalrpop_norm_session.specs.Uses.{Use}
+use Rattle.lalrpop_norm_common.specs.Uses.{Use}
 use Rattle.lalrpop_norm_token_check.proofs.token_check.conversions.check_enum.Goals as goal
 
 pub returns : goal.returns

@@ -3,9 +3,9 @@ use Rattle.std.specs.Prelude.{map}
 use Rattle.std.proofs.lemmas.Fn.{filter_same}
 use Rattle.lalrpop_norm_tree.specs.Items.{alternative_view}
 use Rattle.lalrpop_norm_model.specs.Features.{is_active}
-use Rattle.lalrpop_norm_session.specs.Sessions.{features_view}
-use Rattle.lalrpop_norm_precedence_steps.proofs.EnabledLemmas.{filter_viewed, active_kept}
-use Rattle.lalrpop_norm_precedence_steps.proofs.enabled.retain_alternatives.Goals as goal
+use Rattle.lalrpop_norm_common.specs.Sessions.{features_view}
+use Rattle.lalrpop_norm_prevalidate_attributes.proofs.EnabledLemmas.{filter_viewed, active_kept}
+use Rattle.lalrpop_norm_prevalidate_attributes.proofs.enabled.retain_alternatives.Goals as goal
 
 pub returns : goal.returns
 returns g c =

@@ -1,10 +1,10 @@
 //! Alternatives that the features of a session leave.
 ghost use Rattle.std.specs.Prelude.{◌≡◌, map};
 ghost use Rattle.lalrpop_norm_tree.specs.Items.{alternative_view};
-ghost use Rattle.lalrpop_norm_session.specs.Sessions.{features_view};
-ghost use Rattle.lalrpop_norm_precedence_steps.specs.EnabledAlternatives.{active_alternatives};
+ghost use Rattle.lalrpop_norm_common.specs.Sessions.{features_view};
+ghost use Rattle.lalrpop_norm_prevalidate_attributes.specs.EnabledAlternatives.{active_alternatives};
 
-use lalrpop_norm_session::{Session, cfg_active};
+use lalrpop_norm_common::{Session, cfg_active};
 use lalrpop_norm_tree::grammar::parse_tree::Alternative;
 
 /// Takes out the alternatives of a rule that the features turn off.

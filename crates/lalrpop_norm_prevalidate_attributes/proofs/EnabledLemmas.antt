@@ -5,7 +5,7 @@ use Rattle.lalrpop_norm_tree.specs.Items.{AlternativeData}
 use Rattle.lalrpop_norm_model.specs.Features.{Features, is_active}
 use Rattle.lalrpop_norm_model.specs.Enabled.{if_active}
 use Rattle.lalrpop_norm_model.proofs.EnabledLemmas.{kept}
-use Rattle.lalrpop_norm_precedence_steps.specs.EnabledAlternatives.{active_alternatives}
+use Rattle.lalrpop_norm_prevalidate_attributes.specs.EnabledAlternatives.{active_alternatives}
 
 kept_viewed : {X Y : Type 0} (view : X → Y) (x : X) (b : Bool) (xs : List X) (ys : List Y) → map view xs ≡ ys →
     map view (if b then x ∷ xs else xs) ≡ (if b then view x ∷ ys else ys)
