@@ -1,15 +1,9 @@
 -- What is inside a symbol that is read.
-use Rattle.std.proofs.Common.{◌≡◌, ℕ, List, [], ◌∷◌, map, slice_get, Box, Global, refl, sym, ap, ap₂, ◌∙◌}
-use Rattle.lalrpop_norm_tree.specs.declared.symbol.ArgPattern.TheFolds.{fold_out-Tuple}
-use Rattle.lalrpop_norm_tree.specs.declared.symbol.ExprSymbol.{ExprSymbol}
-use Rattle.lalrpop_norm_tree.specs.declared.symbol.MacroSymbol.{MacroSymbol}
+use Rattle.std.proofs.Common.{◌≡◌, ℕ, List, [], ◌∷◌, map, slice_get, refl, sym, ap, ap₂, ◌∙◌}
 use Rattle.lalrpop_norm_tree.specs.declared.symbol.Symbol.{Symbol}
 use Rattle.lalrpop_norm_tree.specs.declared.symbol.Tuple.{Tuple}
-use Rattle.lalrpop_norm_tree.specs.declared.symbol.SymbolKind.TheFolds.{fold-roll-SymbolKind, fold_out-ExprSymbol, fold_out-MacroSymbol}
-use Rattle.lalrpop_norm_tree.specs.declared.symbol.SymbolKind.TheOpen.{SymbolKind-F}
-use Rattle.lalrpop_norm_tree.specs.declared.symbol.SymbolKind.TheVariants as kind
-use Rattle.lalrpop_norm_tree.specs.declared.symbol.SymbolKind.TheViews.{rolls-Tuple, out-ExprSymbol, out-MacroSymbol}
-use Rattle.lalrpop_norm_tree.specs.Symbols.{Kind, Part, Parts, Call, Again, ArgumentPattern, ArgumentPatterns, argument_pattern_step, tuple_step, argument_pattern_view, argument_patterns_of, tuple_view, part_and, parts_of, at, group, call, tupled, kind_step, expr_step, macro_step, repeat_step, symbol_step, kind_view, symbol_view, macro_view, expr_view, parts_view}
+use Rattle.lalrpop_norm_tree.specs.Symbols.{Kind, Part, Parts, Call, ArgumentPatterns, argument_pattern_view, argument_patterns_of, tuple_view, part_and, parts_of, at, group, call, tupled, kind_view, symbol_view}
+use Rattle.lalrpop_norm_tree.proofs.KindLevels.{names_of}
 use Rattle.lalrpop_norm_nodes.specs.Apart.{nowhere, unplaced, unplaced_kind, all_unplaced}
 use Rattle.lalrpop_norm_nodes.specs.declared.given.Environment.{Environment}
 use Rattle.lalrpop_norm_nodes.specs.declared.node.Node.TheVariants as node
@@ -22,18 +16,6 @@ use Rattle.lalrpop_norm_nodes.specs.Readings.{IsNodeFor, bare_wholes}
 use Rattle.lalrpop_norm_nodes.specs.Wholes.{Whole, one_symbol, symbols, patterns, as_kind, as_symbols, as_patterns, StandsFor, Grows}
 use Rattle.lalrpop_norm_nodes.proofs.ReadLemmas.{read_at}
 use Rattle.lalrpop_norm_nodes.proofs.RowItems.{stands_later, is_kind, are_symbols, are_patterns}
-
-pub group_is : (g : ExprSymbol) → expr_view g ≡ parts_view (out-ExprSymbol g).symbols.items
-group_is g = fold_out-ExprSymbol Kind Parts Call Again Part kind_step expr_step macro_step repeat_step symbol_step g
-
-pub call_is : (m : MacroSymbol) → macro_view m ≡ ((out-MacroSymbol m).name.0, parts_view (out-MacroSymbol m).args.items)
-call_is m = fold_out-MacroSymbol Kind Parts Call Again Part kind_step expr_step macro_step repeat_step symbol_step m
-
-pub tupled_seen : (t : Tuple) (b : Box Symbol Global) → kind_view (kind.Tuple t b) ≡ tupled (tuple_view t) (symbol_view b.value)
-tupled_seen t b = ap kind_view (sym (rolls-Tuple t b)) ∙ fold-roll-SymbolKind Kind Parts Call Again Part kind_step expr_step macro_step repeat_step symbol_step (SymbolKind-F.Tuple t b)
-
-pub tuple_is : (t : Tuple) → tuple_view t ≡ argument_patterns_of (map argument_pattern_view t.tuples.items)
-tuple_is t = fold_out-Tuple ArgumentPattern ArgumentPatterns argument_pattern_step tuple_step t
 
 bare_parts : (ws : List Whole) (e : Environment) (ps : List Part) → parts_of (bare_wholes ws e ps) ≡ all_unplaced (all_filled (whole_for ws e) (parts_of ps))
 bare_parts ws e [] = refl
@@ -65,7 +47,7 @@ tuple_for ws us vs e t s k row n same grows h g =
     let here = stands_later us vs n _ grows h in (
       (are_patterns vs row _ g, is_kind vs n _ here),
       ap₂ (λ (ps : ArgumentPatterns) (p : Part). one_symbol (tupled ps p))
-          (ap (λ o. argument_patterns_of (as_patterns o)) g ∙ sym (tuple_is t))
+          (ap (λ o. argument_patterns_of (as_patterns o)) g ∙ sym (names_of t))
           (ap (λ o. at nowhere (as_kind o)) here ∙ sym (ap unplaced (read_at ws e s)))
           ∙ ap (λ (l : Kind). one_symbol (unplaced_kind (kind_whole ws e l))) (sym same),
     )

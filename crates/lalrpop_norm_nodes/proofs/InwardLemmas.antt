@@ -1,35 +1,20 @@
 -- Where a symbol was reached, what is inside each one that is the same was reached as well, so that meeting it changes nothing.
-use Rattle.std.proofs.Common.{◌≡◌, ℕ, List, [], ◌∷◌, ◌++◌, Bool, true, false, cond, Option, Some, None, map, bytes_eq, refl, sym, ap, ap₂, ◌∙◌, subst, append-nil}
+use Rattle.std.proofs.Common.{◌≡◌, ℕ, List, [], ◌∷◌, ◌++◌, Bool, true, false, cond, Option, Some, None, bytes_eq, refl, sym, ap, ◌∙◌}
 use Rattle.std.specs.Prelude.{not, ◌||◌, ◌&&◌, is_some}
 use Rattle.std.proofs.lemmas.Bool.{and_parts, and_from}
-use Rattle.std.proofs.lemmas.List.{map-append}
-use Rattle.lalrpop_norm_tree.specs.declared.symbol.Symbol.{Symbol}
-use Rattle.lalrpop_norm_tree.specs.Symbols.{Part, Parts, group, call, repeated, chosen, named, tupled, at, no_parts, part_and, symbol_view, kind_view}
+use Rattle.lalrpop_norm_tree.specs.Symbols.{Part}
 use Rattle.lalrpop_norm_tree.specs.SymbolTexts.{part_text}
 use Rattle.lalrpop_norm_faults.specs.declared.kind.FaultKind.TheVariants.{SharedName}
 use Rattle.lalrpop_norm_faults.specs.Faults.{fault_if}
 use Rattle.lalrpop_norm_theory.specs.Symbols.{ClosedSymbol}
 use Rattle.lalrpop_norm_theory.specs.Same.{same_symbol}
-use Rattle.lalrpop_norm_model.specs.PlainRules.{same_apart_from_spans, met, all_met}
-use Rattle.lalrpop_norm_nodes.specs.Apart.{unplaced, all_unplaced}
+use Rattle.lalrpop_norm_model.specs.PlainRules.{same_apart_from_spans}
 use Rattle.lalrpop_norm_model.specs.MadeRules.{span_of}
-use Rattle.lalrpop_norm_nodes.specs.Meeting.{met_inside, own, met_itself, inside, own_text, first_with_text, joined_by, after_one, after, differs, clashes, clash_faults, was_met, were_met, has_key}
+use Rattle.lalrpop_norm_nodes.specs.Meeting.{first_with_text, joined_by, after_one, after, differs, clashes, clash_faults, was_met, were_met}
 use Rattle.lalrpop_norm_model.specs.PlainTables.{closed}
-use Rattle.lalrpop_norm_nodes.proofs.ApartLemmas.{part_closed, unplaced_same}
 use Rattle.lalrpop_norm_nodes.proofs.SamenessLemmas.{closed_same, closed_text_same, none_if, or_false}
 use Rattle.lalrpop_norm_nodes.proofs.FirstLemmas.{first_at}
-use Rattle.lalrpop_norm_nodes.proofs.SymbolLemmas.{met_is}
-use Rattle.lalrpop_norm_tree.proofs.SymbolViews.{seen_at}
-use Rattle.lalrpop_norm_theory.proofs.BoolLemmas.{false_of_not, both_false, not_false}
-use Rattle.lalrpop_norm_theory.proofs.ListLemmas.{some_inner}
-
--- ---- lists
-
-heads : {A : Type 0} (x y : A) (xs ys : List A) → x ∷ xs ≡ y ∷ ys → x ≡ y
-heads x y xs ys h = cc
-
-tails : {A : Type 0} (x y : A) (xs ys : List A) → x ∷ xs ≡ y ∷ ys → xs ≡ ys
-tails x y xs ys h = cc
+use Rattle.lalrpop_norm_theory.proofs.BoolLemmas.{false_of_not, both_false}
 
 -- ---- the first symbol of a text
 
@@ -143,40 +128,3 @@ module _ (names : List ℕ → Bool) where
         free = ap (λ t. names t || not (same_apart_from_spans f.one y)) (sym texts)
             ∙ ap (λ (g : ClosedSymbol). names (part_text x) || not (same_symbol (closed f.one) g)) (sym e) ∙ f.free;
       })
-
-  all_same_met : (seen xs ys : List Part) → map closed xs ≡ map closed ys → were_met names seen xs ≡ true → were_met names seen ys ≡ true
-  all_same_met seen [] [] e h = refl
-  all_same_met seen [] (y ∷ ys) e h = absurd (cc e)
-  all_same_met seen (x ∷ xs) [] e h = absurd (cc e)
-  all_same_met seen (x ∷ xs) (y ∷ ys) e h =
-      let p = and_parts (was_met names seen x) (were_met names seen xs) h in
-      and_from _ _ (same_met seen x y (heads (closed x) (closed y) (map closed xs) (map closed ys) e) p.0)
-      (all_same_met seen xs ys (tails (closed x) (closed y) (map closed xs) (map closed ys) e) p.1)
-
--- ---- spans add nothing to what is inside
-
-mutual
-  met_unplaced : (p : Part) → map closed (met (unplaced p)) ≡ map closed (met p)
-  met_unplaced (at s (group ps)) =
-      map-append closed (all_met (all_unplaced ps)) (unplaced (at s (group ps)) ∷ [])
-      ∙ ap₂ (λ (xs : List ClosedSymbol) (g : ClosedSymbol). xs ++ g ∷ []) (all_met_unplaced ps) (part_closed 0 0 0 0 (at s (group ps)))
-      ∙ sym (map-append closed (all_met ps) (at s (group ps) ∷ []))
-  met_unplaced (at s (call n ps)) =
-      map-append closed (all_met (all_unplaced ps)) (unplaced (at s (call n ps)) ∷ [])
-      ∙ ap₂ (λ (xs : List ClosedSymbol) (g : ClosedSymbol). xs ++ g ∷ []) (all_met_unplaced ps) (part_closed 0 0 0 0 (at s (call n ps)))
-      ∙ sym (map-append closed (all_met ps) (at s (call n ps) ∷ []))
-  met_unplaced (at s (repeated op p)) =
-      map-append closed (met (unplaced p)) (unplaced (at s (repeated op p)) ∷ [])
-      ∙ ap₂ (λ (xs : List ClosedSymbol) (g : ClosedSymbol). xs ++ g ∷ []) (met_unplaced p) (part_closed 0 0 0 0 (at s (repeated op p)))
-      ∙ sym (map-append closed (met p) (at s (repeated op p) ∷ []))
-  met_unplaced (at s (chosen p)) = met_unplaced p
-  met_unplaced (at s (named n p)) = met_unplaced p
-  met_unplaced (at s (tupled ns p)) = met_unplaced p
-  met_unplaced (at s _) = refl
-
-  all_met_unplaced : (ps : Parts) → map closed (all_met (all_unplaced ps)) ≡ map closed (all_met ps)
-  all_met_unplaced no_parts = refl
-  all_met_unplaced (part_and p ps) =
-      map-append closed (met (unplaced p)) (all_met (all_unplaced ps))
-      ∙ ap₂ (λ (xs ys : List ClosedSymbol). xs ++ ys) (met_unplaced p) (all_met_unplaced ps)
-      ∙ sym (map-append closed (met p) (all_met ps))

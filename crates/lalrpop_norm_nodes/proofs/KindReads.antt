@@ -1,6 +1,6 @@
 -- What is known of a kind of symbol that was read: what it reached, what it was rewritten to, and its node.
 use Rattle.std.proofs.Common.{◌≡◌, ℕ, List, [], Bool, true, false, Result, Ok, Err, Box, Global, map, None, Option, Some, option_map, refl, sym, ap, ap₂, ◌∙◌, subst}
-use Rattle.std.specs.Result.{IfOk, OnOk, IsErrAnd}
+use Rattle.std.specs.Result.{IsErrAnd}
 use Rattle.lalrpop_norm_faults.specs.declared.failure.NormFailure.{NormFailure}
 use Rattle.lalrpop_norm_faults.specs.Faults.{IsFirst}
 use Rattle.lalrpop_norm_tree_names.specs.declared.names.NonterminalString.{NonterminalString}
@@ -14,7 +14,8 @@ use Rattle.lalrpop_norm_tree.specs.declared.symbol.Symbol.{Symbol}
 use Rattle.lalrpop_norm_tree.specs.declared.symbol.SymbolKind.{SymbolKind}
 use Rattle.lalrpop_norm_tree.specs.declared.symbol.SymbolKind.TheVariants as kind
 use Rattle.lalrpop_norm_tree.specs.declared.symbol.Tuple.{Tuple}
-use Rattle.lalrpop_norm_tree.specs.Symbols.{Kind, Part, at, ambiguous_id, terminal, nonterminal, chosen, named, repeated, tupled, lookahead, lookbehind, error_terminal, kind_view, symbol_view, tuple_view, argument_pattern_view}
+use Rattle.lalrpop_norm_tree.specs.Symbols.{Kind, Part, Again, at, ambiguous_id, terminal, nonterminal, chosen, named, repeated, tupled, lookahead, lookbehind, error_terminal, kind_view, symbol_view, tuple_view, argument_pattern_view}
+use Rattle.lalrpop_norm_tree.proofs.KindLevels.{repeat_is, chosen_is, named_is, tupled_is, lookahead_is, lookbehind_is, error_is, repeated_symbol}
 use Rattle.lalrpop_norm_tree.proofs.SymbolViews.{ambiguous_seen, nonterminal_seen, terminal_seen}
 use Rattle.lalrpop_norm_model.specs.MadeRules.{or_name}
 use Rattle.lalrpop_norm_nodes.specs.Apart.{nowhere, unplaced, unplaced_kind}
@@ -35,8 +36,7 @@ use Rattle.lalrpop_norm_nodes.specs.Reads.{NodeRead, SymbolRead, RepeatRead, Kin
 use Rattle.lalrpop_norm_nodes.specs.Tables.{wholes_in, IsNodeTable, IsCounted, TableMeets, refused_in}
 use Rattle.lalrpop_norm_nodes.specs.Waits.{parts_replaced, LeavesWaiting}
 use Rattle.lalrpop_norm_nodes.specs.Wholes.{Whole, one_symbol, patterns, as_kind, kind_at, part_at, StandsFor}
-use Rattle.lalrpop_norm_nodes.proofs.InsideReads.{tupled_seen, tuple_for}
-use Rattle.lalrpop_norm_nodes.proofs.KindsSeen.{again_seen, chosen_seen, named_seen, lookahead_seen, lookbehind_seen, error_seen}
+use Rattle.lalrpop_norm_nodes.proofs.InsideReads.{tuple_for}
 use Rattle.lalrpop_norm_nodes.proofs.MeetingLemmas.{err_refuses}
 use Rattle.lalrpop_norm_nodes.proofs.MeetLemmas.{meets_nothing}
 use Rattle.lalrpop_norm_nodes.proofs.ReadLemmas.{read_at}
@@ -89,17 +89,17 @@ free_read t e k now a n table counted free is same text = leaf_read t e k (nonte
 module _ (a : Table) (e : Environment) (k : SymbolKind) (table : IsNodeTable a) (made : IsCounted a) where
   pub lookahead_read : k ≡ kind.Lookahead → KindRead (Ok (node.Leaf leaf.Lookahead)) a a e (kind_view k) (kind_view k)
   lookahead_read is =
-      let seen = ap kind_view is ∙ lookahead_seen in
+      let seen = lookahead_is k is in
       leaf_read a e (kind_view k) lookahead (kind_view k) (node.Leaf leaf.Lookahead) table made seen refl refl seen (tt, refl)
 
   pub lookbehind_read : k ≡ kind.Lookbehind → KindRead (Ok (node.Leaf leaf.Lookbehind)) a a e (kind_view k) (kind_view k)
   lookbehind_read is =
-      let seen = ap kind_view is ∙ lookbehind_seen in
+      let seen = lookbehind_is k is in
       leaf_read a e (kind_view k) lookbehind (kind_view k) (node.Leaf leaf.Lookbehind) table made seen refl refl seen (tt, refl)
 
   pub error_read : k ≡ kind.Error → KindRead (Ok (node.Leaf leaf.Error)) a a e (kind_view k) (kind_view k)
   error_read is =
-      let seen = ap kind_view is ∙ error_seen in
+      let seen = error_is k is in
       leaf_read a e (kind_view k) error_terminal (kind_view k) (node.Leaf leaf.Error) table made seen refl refl seen (tt, refl)
 
   pub ambiguous_read : (n m : List ℕ) → k ≡ kind.AmbiguousId n → m ≡ n → KindRead (Ok (node.NamedLeaf Rule m)) a a e (kind_view k) (kind_view (kind.AmbiguousId n))
@@ -139,26 +139,29 @@ module _ (ws vs : List Whole) (e : Environment) (s : Symbol) (n : ℕ) (h : Stan
       by true x = (is_kind vs n _ h, ap (λ (p : Part). one_symbol (named (record { mutable = true; name = x }) p)) held)
       by false x = (is_kind vs n _ h, ap (λ (p : Part). one_symbol (named (record { mutable = false; name = x }) p)) held)
 
+pub again_is : (k : SymbolKind) (b : Box RepeatSymbol Global) → k ≡ kind.Repeat b → kind_view k ≡ repeated b.value.op (symbol_view b.value.symbol)
+again_is k b is = repeat_is k b is ∙ ap (λ (r : Again). repeated r.0 r.1) (repeated_symbol b.value)
+
 module _ (a b : Table) (e : Environment) (k : SymbolKind) where
   pub chosen_read : (s now : Box Symbol Global) (n : ℕ) → k ≡ kind.Choose s → SymbolRead (Ok n) a b e s.value (symbol_view now.value) →
       KindRead (Ok (node.Unary unary.Chosen n)) a b e (kind_view k) (kind_view (kind.Choose now))
-  chosen_read s now n is r = read_as (Ok (node.Unary unary.Chosen n)) a b e (kind_view k) (chosen (symbol_view s.value)) (kind_view (kind.Choose now)) (ap kind_view is ∙ chosen_seen s) (record {
+  chosen_read s now n is r = read_as (Ok (node.Unary unary.Chosen n)) a b e (kind_view k) (chosen (symbol_view s.value)) (kind_view (kind.Choose now)) (chosen_is k s is) (record {
     refuses = r.refuses;
     meets = r.meets;
     counted = r.counted;
     waits = r.waits;
-    value = chosen_seen now ∙ ap chosen r.value;
+    value = chosen_is (kind.Choose now) now refl ∙ ap chosen r.value;
     node = chosen_for (wholes_in a) (wholes_in b) e s.value n r.number;
   })
 
   pub named_read : (x : Name) (s now : Box Symbol Global) (n : ℕ) (m : Node) → k ≡ kind.Name x s → m ≡ named_node x n → SymbolRead (Ok n) a b e s.value (symbol_view now.value) →
       KindRead (Ok m) a b e (kind_view k) (kind_view (kind.Name x now))
-  named_read x s now n m is same r = read_as (Ok m) a b e (kind_view k) (named x (symbol_view s.value)) (kind_view (kind.Name x now)) (ap kind_view is ∙ named_seen x s) (record {
+  named_read x s now n m is same r = read_as (Ok m) a b e (kind_view k) (named x (symbol_view s.value)) (kind_view (kind.Name x now)) (named_is k x s is) (record {
     refuses = r.refuses;
     meets = r.meets;
     counted = r.counted;
     waits = r.waits;
-    value = named_seen x now ∙ ap (named x) r.value;
+    value = named_is (kind.Name x now) x now refl ∙ ap (named x) r.value;
     node = subst (λ (o : Node). IsNodeFor (wholes_in b) o (kind_whole (wholes_in a) e (named x (symbol_view s.value)))) (sym same) (named_for (wholes_in a) (wholes_in b) e s.value n r.number x);
   })
 
@@ -167,12 +170,12 @@ module _ (a b : Table) (e : Environment) (k : SymbolKind) where
       KindRead (Ok (node.Binary binary.Tuple i n)) a d e (kind_view k) (kind_view (kind.Tuple x now))
   tuple_read d x ps s now n i is held r m =
       let l = tupled (tuple_view x) (symbol_view s.value) in
-      read_as (Ok (node.Binary binary.Tuple i n)) a d e (kind_view k) l (kind_view (kind.Tuple x now)) (ap kind_view is ∙ tupled_seen x s) (record {
+      read_as (Ok (node.Binary binary.Tuple i n)) a d e (kind_view k) l (kind_view (kind.Tuple x now)) (tupled_is k x s is) (record {
         refuses = r.refuses;
         meets = meets_row a b d _ r.meets m.meets;
         counted = counted_row b d r.counted m.counted m.meets;
         waits = waits_row a b d _ r.waits r.meets.table m.meets m.waiting;
-        value = tupled_seen x now ∙ ap (tupled (tuple_view x)) r.value;
+        value = tupled_is (kind.Tuple x now) x now refl ∙ ap (tupled (tuple_view x)) r.value;
         node = tuple_for (wholes_in a) (wholes_in b) (wholes_in d) e x s.value l i n refl m.meets.grows r.number (m.number ∙ ap (λ (qs : List ArgPattern). Some (patterns (map argument_pattern_view qs))) held);
       })
 
@@ -181,12 +184,12 @@ module _ (a b : Table) (e : Environment) (k : SymbolKind) where
   repeated_read s now n m is same r =
       let x = s.value in
       let l = repeated x.op (symbol_view x.symbol) in
-      read_as (Ok m) a b e (kind_view k) l (kind_view (kind.Repeat now)) (ap kind_view is ∙ again_seen s) (record {
+      read_as (Ok m) a b e (kind_view k) l (kind_view (kind.Repeat now)) (again_is k s is) (record {
         refuses = r.refuses;
         meets = r.meets;
         counted = r.counted;
         waits = r.waits;
-        value = again_seen now ∙ ap₂ repeated r.op r.value;
+        value = again_is (kind.Repeat now) now refl ∙ ap₂ repeated r.op r.value;
         node = subst (λ (o : Node). IsNodeFor (wholes_in b) o (kind_whole (wholes_in a) e l)) (sym (same ∙ ap (λ (o : RepeatOp). repeat_node o n) r.op))
             (repeated_for (wholes_in a) (wholes_in b) e x.symbol n r.number x.op);
       })

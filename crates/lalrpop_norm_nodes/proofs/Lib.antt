@@ -6,13 +6,12 @@ pub mod FirstLemmas
 pub mod FirstMet
 pub mod GivenLemmas
 pub mod GroupReads
+pub mod InnerLemmas
 pub mod InPlace
 pub mod InsideReads
 pub mod InwardLemmas
 pub mod KindReads
-pub mod KindsSeen
 pub mod ListedLemmas
-pub mod MadeKinds
 pub mod MapLemmas
 pub mod MeetLemmas
 pub mod MeetingLemmas

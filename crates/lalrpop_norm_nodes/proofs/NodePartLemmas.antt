@@ -1,6 +1,6 @@
 -- The numbers that nodes have for what their symbols are made of.
-use Rattle.std.proofs.Common.{◌≡◌, ℕ, List, [], ◌∷◌, true, false, map, Some, None, slice_get, refl, sym, ap, ◌∙◌}
-use Rattle.lalrpop_norm_tree.specs.Symbols.{Kind, Part, parts_of, call, repeated}
+use Rattle.std.proofs.Common.{◌≡◌, ℕ, Bool, List, [], ◌∷◌, true, false, map, Option, Some, None, slice_get, refl, sym, ap, ◌∙◌}
+use Rattle.lalrpop_norm_tree.specs.Symbols.{Kind, Part, parts_of, nonterminal, call, repeated, error_terminal}
 use Rattle.lalrpop_norm_tree.specs.declared.symbol.RepeatOp.TheVariants.{Star, Plus, Question, Times}
 use Rattle.lalrpop_norm_model.specs.MadeRules.{kind_of, all_kinds}
 use Rattle.lalrpop_norm_nodes.specs.declared.node.Node.{Node}
@@ -27,95 +27,63 @@ pub record CallRow (ws : List Whole) (l : ℕ) (k : Kind) : Type 0 where
 abbrev CallOf : List Whole → Node → Kind → Type 0
 CallOf ws n k = Fits ws n → built ws n ≡ one_symbol k → is_call k ≡ true → CallRow ws (row_of_call n) k
 
-no_call : (ws : List Whole) (l : ℕ) (k j : Kind) → is_call j ≡ false → one_symbol j ≡ one_symbol k → is_call k ≡ true → CallRow ws l k
-no_call ws l k j fails e holds = let same : j ≡ k = cc e in absurd (cc (fails, holds, ap is_call same))
+-- by what holds of a symbol
+abbrev holds_of : (Kind → Bool) → Whole → Bool
+holds_of test (one_symbol k) = test k
+holds_of test _ = false
+
+-- another whole is no call
+no_call : (ws : List Whole) (l : ℕ) (w : Whole) (k : Kind) → holds_of is_call w ≡ false → w ≡ one_symbol k → is_call k ≡ true → CallRow ws l k
+no_call ws l w k fails e holds = absurd (cc (fails, holds, ap (holds_of is_call) e))
 
 call_of : (ws : List Whole) (n : Node) (k : Kind) → CallOf ws n k
 call_of ws (node.NamedUnary named_unary.Call a l) k h e holds =
     let same : call a (parts_of (symbols_at ws l)) ≡ k = cc e in
     record { row = h; kinds = sym (all_kinds_of (symbols_at ws l)) ∙ ap (λ j. all_kinds (call_parts j)) same }
-call_of ws (node.NamedUnary named_unary.Named a n) k h e holds = no_call ws _ k _ refl e holds
-call_of ws (node.NamedUnary named_unary.NamedMut a n) k h e holds = no_call ws _ k _ refl e holds
-call_of ws (node.Leaf leaf.NoSymbols) k h e holds = absurd (cc e)
-call_of ws (node.Leaf leaf.NoPatterns) k h e holds = absurd (cc e)
-call_of ws (node.Leaf leaf.Lookahead) k h e holds = no_call ws _ k _ refl e holds
-call_of ws (node.Leaf leaf.Lookbehind) k h e holds = no_call ws _ k _ refl e holds
-call_of ws (node.Leaf leaf.Error) k h e holds = no_call ws _ k _ refl e holds
-call_of ws (node.NamedLeaf named_leaf.Rule a) k h e holds = no_call ws _ k _ refl e holds
-call_of ws (node.NamedLeaf named_leaf.Pattern a) k h e holds = absurd (cc e)
-call_of ws (node.NamedLeaf named_leaf.MutPattern a) k h e holds = absurd (cc e)
-call_of ws (node.Terminal t) k h e holds = no_call ws _ k _ refl e holds
-call_of ws (node.Unary unary.Group l) k h e holds = no_call ws _ k _ refl e holds
-call_of ws (node.Unary unary.Star n) k h e holds = no_call ws _ k _ refl e holds
-call_of ws (node.Unary unary.Plus n) k h e holds = no_call ws _ k _ refl e holds
-call_of ws (node.Unary unary.Question n) k h e holds = no_call ws _ k _ refl e holds
-call_of ws (node.Unary (unary.Times c) n) k h e holds = no_call ws _ k _ refl e holds
-call_of ws (node.Unary unary.Chosen n) k h e holds = no_call ws _ k _ refl e holds
-call_of ws (node.Unary unary.Several l) k h e holds = absurd (cc e)
-call_of ws (node.Binary binary.Symbols l n) k h e holds = absurd (cc e)
-call_of ws (node.Binary binary.Patterns l n) k h e holds = absurd (cc e)
-call_of ws (node.Binary binary.Tuple l n) k h e holds = no_call ws _ k _ refl e holds
+call_of ws (node.Leaf leaf.Error) k h e holds = no_call ws 0 (one_symbol error_terminal) k refl e holds
+call_of ws (node.NamedLeaf named_leaf.Rule a) k h e holds = no_call ws 0 (one_symbol (nonterminal a)) k refl e holds
+call_of ws (node.Unary unary.Group l) k h e holds = no_call ws 0 (built ws (node.Unary unary.Group l)) k refl e holds
+call_of ws (node.Binary binary.Tuple l n) k h e holds = no_call ws 0 (built ws (node.Binary binary.Tuple l n)) k refl e holds
+call_of ws n k h e holds = no_call ws 0 (built ws n) k refl e holds
 
 -- ---- a repeat
 
 abbrev RepeatOf : List Whole → Node → Kind → Type 0
 RepeatOf ws n k = Fits ws n → built ws n ≡ one_symbol k → is_repeat k ≡ true → StandsFor ws (part_of_repeat n) (one_symbol (repeated_kind k))
 
-no_repeat : (ws : List Whole) (i : ℕ) (k j : Kind) → is_repeat j ≡ false → one_symbol j ≡ one_symbol k → is_repeat k ≡ true → StandsFor ws i (one_symbol (repeated_kind k))
-no_repeat ws i k j fails e holds = let same : j ≡ k = cc e in absurd (cc (fails, holds, ap is_repeat same))
+no_repeat : (ws : List Whole) (i : ℕ) (w : Whole) (k : Kind) → holds_of is_repeat w ≡ false → w ≡ one_symbol k → is_repeat k ≡ true → StandsFor ws i (one_symbol (repeated_kind k))
+no_repeat ws i w k fails e holds = absurd (cc (fails, holds, ap (holds_of is_repeat) e))
 
 repeat_of : (ws : List Whole) (n : Node) (k : Kind) → RepeatOf ws n k
 repeat_of ws (node.Unary unary.Star n) k h e holds = let same : repeated Star (part_at ws n) ≡ k = cc e in h ∙ ap (λ (j : Kind). Some (one_symbol (repeated_kind j))) same
 repeat_of ws (node.Unary unary.Plus n) k h e holds = let same : repeated Plus (part_at ws n) ≡ k = cc e in h ∙ ap (λ (j : Kind). Some (one_symbol (repeated_kind j))) same
 repeat_of ws (node.Unary unary.Question n) k h e holds = let same : repeated Question (part_at ws n) ≡ k = cc e in h ∙ ap (λ (j : Kind). Some (one_symbol (repeated_kind j))) same
 repeat_of ws (node.Unary (unary.Times c) n) k h e holds = let same : repeated (Times c) (part_at ws n) ≡ k = cc e in h ∙ ap (λ (j : Kind). Some (one_symbol (repeated_kind j))) same
-repeat_of ws (node.Unary unary.Group l) k h e holds = no_repeat ws _ k _ refl e holds
-repeat_of ws (node.Unary unary.Chosen n) k h e holds = no_repeat ws _ k _ refl e holds
-repeat_of ws (node.Unary unary.Several l) k h e holds = absurd (cc e)
-repeat_of ws (node.NamedUnary named_unary.Call a l) k h e holds = no_repeat ws _ k _ refl e holds
-repeat_of ws (node.NamedUnary named_unary.Named a n) k h e holds = no_repeat ws _ k _ refl e holds
-repeat_of ws (node.NamedUnary named_unary.NamedMut a n) k h e holds = no_repeat ws _ k _ refl e holds
-repeat_of ws (node.Leaf leaf.NoSymbols) k h e holds = absurd (cc e)
-repeat_of ws (node.Leaf leaf.NoPatterns) k h e holds = absurd (cc e)
-repeat_of ws (node.Leaf leaf.Lookahead) k h e holds = no_repeat ws _ k _ refl e holds
-repeat_of ws (node.Leaf leaf.Lookbehind) k h e holds = no_repeat ws _ k _ refl e holds
-repeat_of ws (node.Leaf leaf.Error) k h e holds = no_repeat ws _ k _ refl e holds
-repeat_of ws (node.NamedLeaf named_leaf.Rule a) k h e holds = no_repeat ws _ k _ refl e holds
-repeat_of ws (node.NamedLeaf named_leaf.Pattern a) k h e holds = absurd (cc e)
-repeat_of ws (node.NamedLeaf named_leaf.MutPattern a) k h e holds = absurd (cc e)
-repeat_of ws (node.Terminal t) k h e holds = no_repeat ws _ k _ refl e holds
-repeat_of ws (node.Binary binary.Symbols l n) k h e holds = absurd (cc e)
-repeat_of ws (node.Binary binary.Patterns l n) k h e holds = absurd (cc e)
-repeat_of ws (node.Binary binary.Tuple l n) k h e holds = no_repeat ws _ k _ refl e holds
+repeat_of ws (node.Leaf leaf.Error) k h e holds = no_repeat ws 0 (one_symbol error_terminal) k refl e holds
+repeat_of ws (node.NamedLeaf named_leaf.Rule a) k h e holds = no_repeat ws 0 (one_symbol (nonterminal a)) k refl e holds
+repeat_of ws (node.NamedUnary named_unary.Call a l) k h e holds = no_repeat ws 0 (built ws (node.NamedUnary named_unary.Call a l)) k refl e holds
+repeat_of ws (node.Binary binary.Tuple l n) k h e holds = no_repeat ws 0 (built ws (node.Binary binary.Tuple l n)) k refl e holds
+repeat_of ws n k h e holds = no_repeat ws 0 (built ws n) k refl e holds
 
 -- ---- a row
 
 abbrev RowOf : List Whole → Node → List Part → Type 0
 RowOf ws n ps = Fits ws n → built ws n ≡ symbols ps → EndsRow ws ps (last_in_row n)
 
+abbrev is_row : Whole → Bool
+is_row (symbols ps) = true
+is_row _ = false
+
+no_row : (ws : List Whole) (w : Whole) (ps : List Part) (o : Option (ℕ × ℕ)) → is_row w ≡ false → w ≡ symbols ps → EndsRow ws ps o
+no_row ws w ps o fails e = absurd (cc (fails, ap is_row e))
+
 row_of : (ws : List Whole) (n : Node) (ps : List Part) → RowOf ws n ps
 row_of ws (node.Leaf leaf.NoSymbols) ps h e = let same : [] ≡ ps = cc e in sym same
 row_of ws (node.Binary binary.Symbols l n) ps h e = (h.0, h.1, sym (cc e))
-row_of ws (node.Leaf leaf.NoPatterns) ps h e = absurd (cc e)
-row_of ws (node.Leaf leaf.Lookahead) ps h e = absurd (cc e)
-row_of ws (node.Leaf leaf.Lookbehind) ps h e = absurd (cc e)
-row_of ws (node.Leaf leaf.Error) ps h e = absurd (cc e)
-row_of ws (node.NamedLeaf named_leaf.Rule a) ps h e = absurd (cc e)
-row_of ws (node.NamedLeaf named_leaf.Pattern a) ps h e = absurd (cc e)
-row_of ws (node.NamedLeaf named_leaf.MutPattern a) ps h e = absurd (cc e)
-row_of ws (node.Terminal t) ps h e = absurd (cc e)
-row_of ws (node.Unary unary.Group l) ps h e = absurd (cc e)
-row_of ws (node.Unary unary.Star n) ps h e = absurd (cc e)
-row_of ws (node.Unary unary.Plus n) ps h e = absurd (cc e)
-row_of ws (node.Unary unary.Question n) ps h e = absurd (cc e)
-row_of ws (node.Unary (unary.Times c) n) ps h e = absurd (cc e)
-row_of ws (node.Unary unary.Chosen n) ps h e = absurd (cc e)
-row_of ws (node.Unary unary.Several l) ps h e = absurd (cc e)
-row_of ws (node.NamedUnary named_unary.Call a l) ps h e = absurd (cc e)
-row_of ws (node.NamedUnary named_unary.Named a n) ps h e = absurd (cc e)
-row_of ws (node.NamedUnary named_unary.NamedMut a n) ps h e = absurd (cc e)
-row_of ws (node.Binary binary.Patterns l n) ps h e = absurd (cc e)
-row_of ws (node.Binary binary.Tuple l n) ps h e = absurd (cc e)
+row_of ws (node.NamedLeaf named_leaf.Rule a) ps h e = no_row ws (one_symbol (nonterminal a)) ps None refl e
+row_of ws (node.Unary unary.Group l) ps h e = no_row ws (built ws (node.Unary unary.Group l)) ps None refl e
+row_of ws (node.NamedUnary named_unary.Call a l) ps h e = no_row ws (built ws (node.NamedUnary named_unary.Call a l)) ps None refl e
+row_of ws n ps h e = no_row ws (built ws n) ps None refl e
 
 -- ---- the node of a number
 

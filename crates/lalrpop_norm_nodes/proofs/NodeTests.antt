@@ -44,34 +44,23 @@ terminal_complete terminal.Error = refl
 
 leaf_complete : (a : Leaf) → leaves.eq-value.it a a ≡ true
 leaf_complete leaf.NoSymbols = refl
-leaf_complete leaf.NoPatterns = refl
-leaf_complete leaf.Lookahead = refl
-leaf_complete leaf.Lookbehind = refl
-leaf_complete leaf.Error = refl
+leaf_complete _ = refl
 
 named_leaf_complete : (a : NamedLeaf) → named_leaves.eq-value.it a a ≡ true
 named_leaf_complete named_leaf.Rule = refl
-named_leaf_complete named_leaf.Pattern = refl
-named_leaf_complete named_leaf.MutPattern = refl
+named_leaf_complete _ = refl
 
 unary_complete : (a : Unary) → unaries.eq-value.it a a ≡ true
-unary_complete unary.Group = refl
-unary_complete unary.Star = refl
-unary_complete unary.Plus = refl
-unary_complete unary.Question = refl
 unary_complete (unary.Times n) = eq-eqb n n refl
-unary_complete unary.Chosen = refl
-unary_complete unary.Several = refl
+unary_complete _ = refl
 
 named_unary_complete : (a : NamedUnary) → named_unaries.eq-value.it a a ≡ true
 named_unary_complete named_unary.Call = refl
-named_unary_complete named_unary.Named = refl
-named_unary_complete named_unary.NamedMut = refl
+named_unary_complete _ = refl
 
 binary_complete : (a : Binary) → binaries.eq-value.it a a ≡ true
 binary_complete binary.Symbols = refl
-binary_complete binary.Patterns = refl
-binary_complete binary.Tuple = refl
+binary_complete _ = refl
 
 pub node_complete : (n : Node) → same_node n n ≡ true
 node_complete (node.Leaf a) = leaf_complete a

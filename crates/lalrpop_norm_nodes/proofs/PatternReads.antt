@@ -12,7 +12,7 @@ use Rattle.lalrpop_norm_tree.specs.Symbols.{ArgumentPattern, ArgumentPatterns, o
 use Rattle.lalrpop_norm_nodes.specs.declared.node.Node.TheVariants as node
 use Rattle.lalrpop_norm_nodes.specs.declared.node.Unary.TheVariants as unary
 use Rattle.lalrpop_norm_nodes.specs.Wholes.{Whole, one_pattern, patterns, as_pattern, as_patterns, built, IsPattern, StandsFor}
-use Rattle.lalrpop_norm_nodes.proofs.InsideReads.{tuple_is}
+use Rattle.lalrpop_norm_tree.proofs.KindLevels.{names_of}
 
 pub name_seen : (n : Name) → argument_pattern_view (pattern.Name n) ≡ one_name n
 name_seen n = ap argument_pattern_view (sym (rolls-Name n)) ∙ fold-roll-ArgPattern ArgumentPattern ArgumentPatterns argument_pattern_step tuple_step (ArgPattern-F.Name n)
@@ -29,7 +29,7 @@ pub several_for : (ws : List Whole) (p : ArgPattern) (t : Tuple) (xs : List ArgP
 several_for ws p t xs row is same h =
     ap (λ o. one_pattern (several (argument_patterns_of (as_patterns o)))) h
     ∙ ap (λ (ys : List ArgPattern). one_pattern (several (argument_patterns_of (map argument_pattern_view ys)))) same
-    ∙ ap (λ (ps : ArgumentPatterns). one_pattern (several ps)) (sym (tuple_is t))
+    ∙ ap (λ (ps : ArgumentPatterns). one_pattern (several ps)) (sym (names_of t))
     ∙ ap one_pattern (sym (ap argument_pattern_view is ∙ several_seen t))
 
 module _ (t : ℕ) where

@@ -1,15 +1,11 @@
 -- What the walk over symbols goes down by: what a symbol holds is less deep than the symbol.
-use Rattle.std.proofs.Common.{◌≡◌, ℕ, ◌+◌, ◌*◌, ◌<◌, ◌≤◌, length, get_or, slice_index_or, List, Box, Global, arith}
+use Rattle.std.proofs.Common.{◌≡◌, ℕ, ◌+◌, ◌*◌, ◌<◌, ◌≤◌, length, get_or, slice_index_or, List, arith}
 use denote.Param.Weighed.{most, at_most}
 use Rattle.lalrpop_norm_tree.specs.declared.symbol.ExprSymbol.{ExprSymbol}
 use Rattle.lalrpop_norm_tree.specs.declared.symbol.MacroSymbol.{MacroSymbol}
-use Rattle.lalrpop_norm_tree.specs.declared.symbol.Name.{Name}
 use Rattle.lalrpop_norm_tree.specs.declared.symbol.RepeatSymbol.{RepeatSymbol}
 use Rattle.lalrpop_norm_tree.specs.declared.symbol.Symbol.{Symbol}
-use Rattle.lalrpop_norm_tree.specs.declared.symbol.SymbolKind.{SymbolKind}
-use Rattle.lalrpop_norm_tree.specs.declared.symbol.SymbolKind.TheVariants as kind
-use Rattle.lalrpop_norm_tree.specs.declared.symbol.SymbolKind.TheViews.{size-Symbol, size-SymbolKind, size-RepeatSymbol, size-ExprSymbol, size-MacroSymbol, size_is-Symbol, size_is-RepeatSymbol, size_is-ExprSymbol, size_is-MacroSymbol, sized-Choose, sized-Name, sized-Tuple, sized-Repeat, sized-Expr, sized-Macro, out-ExprSymbol, out-MacroSymbol}
-use Rattle.lalrpop_norm_tree.specs.declared.symbol.Tuple.{Tuple}
+use Rattle.lalrpop_norm_tree.specs.declared.symbol.SymbolKind.TheViews.{size-Symbol, size-SymbolKind, size-RepeatSymbol, size-ExprSymbol, size-MacroSymbol, size_is-Symbol, size_is-RepeatSymbol, size_is-ExprSymbol, size_is-MacroSymbol, out-ExprSymbol, out-MacroSymbol}
 
 module _ (t : ℕ) where
   pub to_kind : (s : Symbol) → 2 * size-Symbol s + 0 ≡ t → 2 * size-SymbolKind s.kind + 0 < t
@@ -30,22 +26,3 @@ module _ (t : ℕ) where
   pub to_one : (now ss : List Symbol) (i : ℕ) (d : Symbol) → i < length ss → ((k : ℕ) (x : Symbol) → i ≤ k → slice_index_or now k x ≡ slice_index_or ss k x) →
       2 * most size-Symbol ss + 1 ≡ t → 2 * size-Symbol (get_or now i d) + 0 < t
   to_one now ss i d h rest is = rw (rest i d (omega arith)) (omega (arith, at_most size-Symbol ss i d h))
-
-  module _ (k : SymbolKind) where
-    pub to_chosen : (b : Box Symbol Global) → k ≡ kind.Choose b → 2 * size-SymbolKind k + 0 ≡ t → 2 * size-Symbol b.value + 1 < t
-    to_chosen b of is = omega (arith, rw (of) at is, sized-Choose b)
-
-    pub to_named : (n : Name) (b : Box Symbol Global) → k ≡ kind.Name n b → 2 * size-SymbolKind k + 0 ≡ t → 2 * size-Symbol b.value + 1 < t
-    to_named n b of is = omega (arith, rw (of) at is, sized-Name n b)
-
-    pub to_tupled : (x : Tuple) (b : Box Symbol Global) → k ≡ kind.Tuple x b → 2 * size-SymbolKind k + 0 ≡ t → 2 * size-Symbol b.value + 1 < t
-    to_tupled x b of is = omega (arith, rw (of) at is, sized-Tuple x b)
-
-    pub to_repeat : (b : Box RepeatSymbol Global) → k ≡ kind.Repeat b → 2 * size-SymbolKind k + 0 ≡ t → 2 * size-RepeatSymbol b.value + 1 < t
-    to_repeat b of is = omega (arith, rw (of) at is, sized-Repeat b)
-
-    pub to_group : (g : ExprSymbol) → k ≡ kind.Expr g → 2 * size-SymbolKind k + 0 ≡ t → 2 * size-ExprSymbol g + 0 < t
-    to_group g of is = omega (arith, rw (of) at is, sized-Expr g)
-
-    pub to_call : (m : MacroSymbol) → k ≡ kind.Macro m → 2 * size-SymbolKind k + 0 ≡ t → 2 * size-MacroSymbol m + 0 < t
-    to_call m of is = omega (arith, rw (of) at is, sized-Macro m)

@@ -71,13 +71,9 @@ module _ (ws more : List Whole) where
   pub built_stays : (n : Node) → Fits ws n → built (ws ++ more) n ≡ built ws n
   built_stays (node.Leaf leaf.NoSymbols) h = refl
   built_stays (node.Binary binary.Symbols l n) h = ap₂ (λ (ps : List Part) (k : Kind). symbols (ps ++ at nowhere k ∷ [])) (symbols_stay l h.0) (symbol_stays n h.1)
-  built_stays (node.Leaf leaf.NoPatterns) h = refl
   built_stays (node.Binary binary.Patterns l n) h = ap₂ (λ (ps : List ArgumentPattern) (p : ArgumentPattern). patterns (ps ++ p ∷ [])) (patterns_stay l h.0) (pattern_stays n h.1)
-  built_stays (node.NamedLeaf named_leaf.Pattern a) h = refl
-  built_stays (node.NamedLeaf named_leaf.MutPattern a) h = refl
   built_stays (node.Unary unary.Several l) h = ap (λ (ps : List ArgumentPattern). one_pattern (several (argument_patterns_of ps))) (patterns_stay l h)
   built_stays (node.NamedLeaf named_leaf.Rule a) h = refl
-  built_stays (node.Terminal t) h = refl
   built_stays (node.Unary unary.Group l) h = ap (λ (ps : List Part). one_symbol (group (parts_of ps))) (symbols_stay l h)
   built_stays (node.NamedUnary named_unary.Call a l) h = ap (λ (ps : List Part). one_symbol (call a (parts_of ps))) (symbols_stay l h)
   built_stays (node.Unary unary.Star n) h = ap (λ (k : Kind). one_symbol (repeated Star (at nowhere k))) (symbol_stays n h)
@@ -88,20 +84,14 @@ module _ (ws more : List Whole) where
   built_stays (node.NamedUnary named_unary.Named a n) h = ap (λ (k : Kind). one_symbol (named (record { mutable = false; name = a }) (at nowhere k))) (symbol_stays n h)
   built_stays (node.NamedUnary named_unary.NamedMut a n) h = ap (λ (k : Kind). one_symbol (named (record { mutable = true; name = a }) (at nowhere k))) (symbol_stays n h)
   built_stays (node.Binary binary.Tuple l n) h = ap₂ (λ (ps : List ArgumentPattern) (k : Kind). one_symbol (tupled (argument_patterns_of ps) (at nowhere k))) (patterns_stay l h.0) (symbol_stays n h.1)
-  built_stays (node.Leaf leaf.Lookahead) h = refl
-  built_stays (node.Leaf leaf.Lookbehind) h = refl
-  built_stays (node.Leaf leaf.Error) h = refl
+  built_stays _ h = refl
 
   pub fits_stays : (n : Node) → Fits ws n → Fits (ws ++ more) n
   fits_stays (node.Leaf leaf.NoSymbols) h = tt
   fits_stays (node.Binary binary.Symbols l n) h = (are_symbols_stay l h.0, is_kind_stays n h.1)
-  fits_stays (node.Leaf leaf.NoPatterns) h = tt
   fits_stays (node.Binary binary.Patterns l n) h = (are_patterns_stay l h.0, is_pattern_stays n h.1)
-  fits_stays (node.NamedLeaf named_leaf.Pattern a) h = tt
-  fits_stays (node.NamedLeaf named_leaf.MutPattern a) h = tt
   fits_stays (node.Unary unary.Several l) h = are_patterns_stay l h
   fits_stays (node.NamedLeaf named_leaf.Rule a) h = tt
-  fits_stays (node.Terminal t) h = tt
   fits_stays (node.Unary unary.Group l) h = are_symbols_stay l h
   fits_stays (node.NamedUnary named_unary.Call a l) h = are_symbols_stay l h
   fits_stays (node.Unary unary.Star n) h = is_kind_stays n h
@@ -112,9 +102,7 @@ module _ (ws more : List Whole) where
   fits_stays (node.NamedUnary named_unary.Named a n) h = is_kind_stays n h
   fits_stays (node.NamedUnary named_unary.NamedMut a n) h = is_kind_stays n h
   fits_stays (node.Binary binary.Tuple l n) h = (are_patterns_stay l h.0, is_kind_stays n h.1)
-  fits_stays (node.Leaf leaf.Lookahead) h = tt
-  fits_stays (node.Leaf leaf.Lookbehind) h = tt
-  fits_stays (node.Leaf leaf.Error) h = tt
+  fits_stays _ h = tt
 
 -- ---- one more
 
@@ -219,13 +207,9 @@ patterns_are ws l k (q ∷ qs) x h g = (l, k, (q ∷ qs), x, refl, h, g, refl)
 is_node_of : (ws : List Whole) (n : Node) → Fits ws n → IsNodeOf ws (built ws n) n
 is_node_of ws (node.Leaf leaf.NoSymbols) h = refl
 is_node_of ws (node.Binary binary.Symbols l n) h = row_is ws l n (symbols_at ws l) (kind_at ws n) h.0 h.1
-is_node_of ws (node.Leaf leaf.NoPatterns) h = refl
 is_node_of ws (node.Binary binary.Patterns l n) h = patterns_are ws l n (patterns_at ws l) (pattern_at ws n) h.0 h.1
-is_node_of ws (node.NamedLeaf named_leaf.Pattern a) h = refl
-is_node_of ws (node.NamedLeaf named_leaf.MutPattern a) h = refl
 is_node_of ws (node.Unary unary.Several l) h = (l, patterns_at ws l, refl, h, refl)
 is_node_of ws (node.NamedLeaf named_leaf.Rule a) h = refl
-is_node_of ws (node.Terminal t) h = refl
 is_node_of ws (node.Unary unary.Group l) h = (l, symbols_at ws l, refl, h, refl)
 is_node_of ws (node.NamedUnary named_unary.Call a l) h = (l, symbols_at ws l, refl, h, refl)
 is_node_of ws (node.Unary unary.Star n) h = (n, kind_at ws n, refl, h, refl)
@@ -236,9 +220,7 @@ is_node_of ws (node.Unary unary.Chosen n) h = (n, kind_at ws n, refl, h, refl)
 is_node_of ws (node.NamedUnary named_unary.Named a n) h = (n, kind_at ws n, refl, h, refl)
 is_node_of ws (node.NamedUnary named_unary.NamedMut a n) h = (n, kind_at ws n, refl, h, refl)
 is_node_of ws (node.Binary binary.Tuple l n) h = (l, n, patterns_at ws l, kind_at ws n, refl, h.0, h.1, refl, refl)
-is_node_of ws (node.Leaf leaf.Lookahead) h = refl
-is_node_of ws (node.Leaf leaf.Lookbehind) h = refl
-is_node_of ws (node.Leaf leaf.Error) h = refl
+is_node_of ws _ h = refl
 
 module _ (ns : List Node) (ws : List Whole) (rows : AreRows ns ws) where
   one_number : (i j : ℕ) (v w : Whole) → StandsFor ws i v → StandsFor ws j w → v ≡ w → i ≡ j

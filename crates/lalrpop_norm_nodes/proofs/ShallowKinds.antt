@@ -1,33 +1,40 @@
 -- What a macro's arguments are bound to, with what is desugared rewritten in them: symbols and types with these substituted.
-use Rattle.std.proofs.Common.{◌≡◌, ℕ, List, Option, Some, None, option_map, refl, ap, ap₂, ◌∙◌}
-use Rattle.lalrpop_norm_tree.specs.Symbols.{Kind, Part, Parts, group, ambiguous_id, nonterminal, call, repeated, chosen, named, tupled, at, no_parts, part_and}
+use Rattle.std.proofs.Common.{◌≡◌, ℕ, List, cond, Option, Some, None, option_map, refl, sym, ap, ap₂, ◌∙◌}
+use Rattle.lalrpop_norm_tree.specs.Symbols.{Kind, Part, Parts, group, ambiguous_id, nonterminal, at, part_and}
+use Rattle.lalrpop_norm_tree_names.specs.declared.names.Span.{Span}
 use Rattle.lalrpop_norm_tree.specs.SymbolTexts.{kind_text}
+use Rattle.lalrpop_norm_tree.specs.Traversal.{inner}
 use Rattle.lalrpop_norm_tree.specs.Types.{TypeData, TypesData, MaybeType, tuple, slice, nominal, reference, trait_object, of_lifetime, id, of_symbol, function, no_types, type_and, no_type, returns}
 use Rattle.lalrpop_norm_model.specs.MadeRules.{or_name, substituted_leaf, substituted, kind_substituted, all_substituted, type_of_name, type_substituted, types_substituted, returned_substituted}
-use Rattle.lalrpop_norm_model.specs.Replaced.{replaced, replaced_kind, all_replaced}
-use Rattle.lalrpop_norm_nodes.specs.Filled.{filled, filled_kind, all_filled}
+use Rattle.lalrpop_norm_model.specs.Replaced.{is_desugared, replaced, replaced_kind, all_replaced}
+use Rattle.lalrpop_norm_nodes.specs.Filled.{filled_leaf, filled, filled_kind, all_filled}
+use Rattle.lalrpop_norm_nodes.proofs.InnerLemmas.{All, every, each, row_alike, remade, mapped}
 use Rattle.lalrpop_norm_nodes.proofs.TwiceLemmas.{kind_twice, kind_text_replaced}
 use Rattle.lalrpop_norm_nodes.proofs.MapLemmas.{kind_text_kept}
 
 -- ---- a macro's alternatives are copied with no argument bound, which makes an identifier a nonterminal, and then substituted
 
 module _ (f : List ℕ → Option Kind) where
-  mutual
-    kind_filled_later : (k : Kind) → filled_kind f (kind_substituted (λ n. None) k) ≡ kind_substituted f k
-    kind_filled_later (group ps) = ap group (all_filled_later ps)
-    kind_filled_later (call n ps) = ap (call n) (all_filled_later ps)
-    kind_filled_later (repeated op p) = ap (repeated op) (filled_later p)
-    kind_filled_later (chosen p) = ap chosen (filled_later p)
-    kind_filled_later (named n p) = ap (named n) (filled_later p)
-    kind_filled_later (tupled ns p) = ap (tupled ns) (filled_later p)
-    kind_filled_later _ = refl
+  abbrev IsFilledLater : Part → Type 0
+  IsFilledLater p = filled f (substituted (λ n. None) p) ≡ substituted f p
 
-    filled_later : (p : Part) → filled f (substituted (λ n. None) p) ≡ substituted f p
-    filled_later (at s k) = ap (at s) (kind_filled_later k)
+  filled_by : (k : Kind) → filled_kind f (kind_substituted (λ n. None) k) ≡ remade (filled_leaf f (substituted_leaf (λ n. None) k)) k (all_filled f (all_substituted (λ n. None) (inner k)))
+  filled_by (group ps) = refl
+  filled_by _ = refl
 
-    pub all_filled_later : (ps : Parts) → all_filled f (all_substituted (λ n. None) ps) ≡ all_substituted f ps
-    all_filled_later no_parts = refl
-    all_filled_later (part_and p ps) = ap₂ part_and (filled_later p) (all_filled_later ps)
+  leaf_later : (k : Kind) → filled_leaf f (substituted_leaf (λ n. None) k) ≡ substituted_leaf f k
+  leaf_later (nonterminal n) = refl
+  leaf_later _ = refl
+
+  row_later : (ps : Parts) → All IsFilledLater ps → all_filled f (all_substituted (λ n. None) ps) ≡ all_substituted f ps
+  row_later =
+      row_alike (λ p. filled f (substituted (λ n. None) p)) (substituted f) (λ ps. all_filled f (all_substituted (λ n. None) ps)) (all_substituted f) part_and refl (λ p ps. refl) (λ p ps. refl)
+
+  later_step : (s : Span) (k : Kind) → All IsFilledLater (inner k) → IsFilledLater (at s k)
+  later_step s k h = ap (at s) (filled_by k ∙ ap₂ (λ l qs. remade l k qs) (leaf_later k) (row_later (inner k) h) ∙ sym (mapped (substituted_leaf f) k))
+
+  pub all_filled_later : (ps : Parts) → all_filled f (all_substituted (λ n. None) ps) ≡ all_substituted f ps
+  all_filled_later ps = row_later ps (each IsFilledLater later_step ps)
 
 -- ---- texts: two ways of binding with one text for each argument give one text
 
@@ -48,6 +55,11 @@ module _ (f g : List ℕ → Option Kind) (same : (n : List ℕ) → option_map 
 
 -- ---- what arguments are bound to, and the same replaced
 
+replaced_substituted : (f : List ℕ → Option Kind) (k : Kind) → replaced_kind (kind_substituted f k)
+    ≡ cond (is_desugared k) (nonterminal (kind_text (kind_substituted f k))) (remade (replaced_kind (substituted_leaf f k)) k (all_replaced (all_substituted f (inner k))))
+replaced_substituted f (group ps) = refl
+replaced_substituted f _ = refl
+
 module _ (arg shown : List ℕ → Option Kind) (same : (n : List ℕ) → shown n ≡ option_map replaced_kind (arg n)) where
   bound_text : (o p : Option Kind) → p ≡ option_map replaced_kind o → option_map kind_text p ≡ option_map kind_text o
   bound_text None p e = ap (option_map kind_text) e
@@ -63,24 +75,29 @@ module _ (arg shown : List ℕ → Option Kind) (same : (n : List ℕ) → shown
   or_replaced n None p e = ap (λ q. replaced_kind (or_name n q)) e
   or_replaced n (Some k) p e = ap (λ q. replaced_kind (or_name n q)) e ∙ kind_twice k
 
-  mutual
-    kind_replaced_so : (k : Kind) → replaced_kind (kind_substituted shown k) ≡ replaced_kind (kind_substituted arg k)
-    kind_replaced_so (nonterminal n) = or_replaced n (arg n) (shown n) (same n)
-    kind_replaced_so (ambiguous_id n) = or_replaced n (arg n) (shown n) (same n)
-    kind_replaced_so (group ps) = ap nonterminal (kind_text_bound shown arg shown_texts (group ps))
-    kind_replaced_so (call n ps) = ap nonterminal (kind_text_bound shown arg shown_texts (call n ps))
-    kind_replaced_so (repeated op p) = ap nonterminal (kind_text_bound shown arg shown_texts (repeated op p))
-    kind_replaced_so (chosen p) = ap chosen (replaced_so p)
-    kind_replaced_so (named n p) = ap (named n) (replaced_so p)
-    kind_replaced_so (tupled ns p) = ap (tupled ns) (replaced_so p)
-    kind_replaced_so _ = refl
+  abbrev IsReplacedSo : Part → Type 0
+  IsReplacedSo p = replaced (substituted shown p) ≡ replaced (substituted arg p)
 
-    pub replaced_so : (p : Part) → replaced (substituted shown p) ≡ replaced (substituted arg p)
-    replaced_so (at s k) = ap (at s) (kind_replaced_so k)
+  leaf_so : (k : Kind) → replaced_kind (substituted_leaf shown k) ≡ replaced_kind (substituted_leaf arg k)
+  leaf_so (nonterminal n) = or_replaced n (arg n) (shown n) (same n)
+  leaf_so (ambiguous_id n) = or_replaced n (arg n) (shown n) (same n)
+  leaf_so _ = refl
+
+  row_so : (ps : Parts) → All IsReplacedSo ps → all_replaced (all_substituted shown ps) ≡ all_replaced (all_substituted arg ps)
+  row_so = row_alike (λ p. replaced (substituted shown p)) (λ p. replaced (substituted arg p)) (λ ps. all_replaced (all_substituted shown ps)) (λ ps. all_replaced (all_substituted arg ps))
+      part_and refl (λ p ps. refl) (λ p ps. refl)
+
+  replaced_step : (s : Span) (k : Kind) → All IsReplacedSo (inner k) → IsReplacedSo (at s k)
+  replaced_step s k h =
+      ap (at s) (replaced_substituted shown k
+      ∙ ap₂ (cond (is_desugared k)) (ap nonterminal (kind_text_bound shown arg shown_texts k)) (ap₂ (λ l qs. remade l k qs) (leaf_so k) (row_so (inner k) h))
+      ∙ sym (replaced_substituted arg k))
+
+  pub replaced_so : (p : Part) → replaced (substituted shown p) ≡ replaced (substituted arg p)
+  replaced_so = every IsReplacedSo replaced_step
 
   pub all_replaced_so : (ps : Parts) → all_replaced (all_substituted shown ps) ≡ all_replaced (all_substituted arg ps)
-  all_replaced_so no_parts = refl
-  all_replaced_so (part_and p ps) = ap₂ part_and (replaced_so p) (all_replaced_so ps)
+  all_replaced_so ps = row_so ps (each IsReplacedSo replaced_step ps)
 
   -- ---- types: the type of a symbol is that of the symbol replaced
 

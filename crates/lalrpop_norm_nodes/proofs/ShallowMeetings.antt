@@ -1,23 +1,25 @@
 -- What is reached where arguments stand for ids, or for symbols that are rewritten, is what is reached where they stand for
 -- symbols: all that is inside an argument was reached before.
-use Rattle.std.proofs.Common.{◌≡◌, ℕ, List, [], ◌∷◌, ◌++◌, Bool, true, false, cond, map, Option, Some, None, option_map, bytes_eq, refl, sym, ap, ap₂, ◌∙◌, subst}
+use Rattle.std.proofs.Common.{◌≡◌, ℕ, List, [], ◌∷◌, ◌++◌, Bool, true, false, cond, map, Option, Some, None, option_map, bytes_eq, refl, sym, ap, ap₂, ◌∙◌, subst, append-nil}
 use Rattle.std.specs.Prelude.{not, ◌||◌}
 use Rattle.std.proofs.lemmas.Bool.{and_parts, and_from}
 use Rattle.std.proofs.lemmas.List.{map-append}
 use Rattle.lalrpop_norm_tree_names.specs.declared.names.Span.{Span}
-use Rattle.lalrpop_norm_tree.specs.Symbols.{Kind, Part, Parts, group, ambiguous_id, terminal, nonterminal, call, repeated, chosen, named, tupled, lookahead, lookbehind, error_terminal, at, no_parts, part_and}
+use Rattle.lalrpop_norm_tree.specs.Symbols.{Kind, Part, Parts, group, ambiguous_id, nonterminal, call, repeated, lookahead, lookbehind, at, no_parts, part_and}
 use Rattle.lalrpop_norm_tree.specs.SymbolTexts.{part_text}
+use Rattle.lalrpop_norm_tree.specs.Traversal.{inner}
 use Rattle.lalrpop_norm_faults.specs.declared.kind.FaultKind.TheVariants.{SharedName}
 use Rattle.lalrpop_norm_faults.specs.Faults.{Fault, fault_if}
 use Rattle.lalrpop_norm_theory.specs.Symbols.{ClosedSymbol}
 use Rattle.lalrpop_norm_theory.specs.Same.{same_symbol}
-use Rattle.lalrpop_norm_model.specs.MadeRules.{span_of, or_name, substituted, kind_substituted, all_substituted}
+use Rattle.lalrpop_norm_model.specs.MadeRules.{kind_of, span_of, or_name, substituted_leaf, substituted, kind_substituted, all_substituted}
 use Rattle.lalrpop_norm_model.specs.PlainRules.{met, all_met}
 use Rattle.lalrpop_norm_model.specs.PlainTables.{closed}
 use Rattle.lalrpop_norm_model.specs.Replaced.{replaced_kind}
 use Rattle.lalrpop_norm_nodes.specs.Apart.{nowhere, unplaced_kind, unplaced, all_unplaced}
 use Rattle.lalrpop_norm_nodes.specs.Meeting.{first_with_text, joined_by, after, differs, clash_faults, was_met, were_met}
 use Rattle.lalrpop_norm_nodes.proofs.ApartLemmas.{part_closed, unplaced_twice}
+use Rattle.lalrpop_norm_nodes.proofs.InnerLemmas.{All, every, each, row_alike, remade}
 use Rattle.lalrpop_norm_nodes.proofs.InwardLemmas.{quiet, same_met, stays_after}
 use Rattle.lalrpop_norm_nodes.proofs.MeetingLemmas.{after_both, clash_both}
 use Rattle.lalrpop_norm_nodes.proofs.SamenessLemmas.{closed_text_same}
@@ -32,35 +34,35 @@ use Rattle.lalrpop_norm_nodes.proofs.TwiceLemmas.{nothing_met, inside_text}
 pub closed_bare : (x y : Part) → unplaced x ≡ unplaced y → closed x ≡ closed y
 closed_bare x y e = sym (part_closed 0 0 0 0 x) ∙ ap closed e ∙ part_closed 0 0 0 0 y
 
-mutual
-  -- the same is reached, up to spans
-  pub met_bare : (s t : Span) (k : Kind) → map unplaced (met (at s (unplaced_kind k))) ≡ map unplaced (met (at t k))
-  met_bare s t (group ps) =
-      map-append unplaced (all_met (all_unplaced ps)) (at s (group (all_unplaced ps)) ∷ [])
-      ∙ ap₂ (λ (xs : List Part) (k : Kind). xs ++ at nowhere k ∷ []) (all_met_bare ps) (unplaced_twice (group ps))
-      ∙ sym (map-append unplaced (all_met ps) (at t (group ps) ∷ []))
-  met_bare s t (call n ps) =
-      map-append unplaced (all_met (all_unplaced ps)) (at s (call n (all_unplaced ps)) ∷ [])
-      ∙ ap₂ (λ (xs : List Part) (k : Kind). xs ++ at nowhere k ∷ []) (all_met_bare ps) (unplaced_twice (call n ps))
-      ∙ sym (map-append unplaced (all_met ps) (at t (call n ps) ∷ []))
-  met_bare s t (repeated op p) =
-      map-append unplaced (met (unplaced p)) (at s (repeated op (unplaced p)) ∷ [])
-      ∙ ap₂ (λ (xs : List Part) (k : Kind). xs ++ at nowhere k ∷ []) (part_met_bare p) (unplaced_twice (repeated op p))
-      ∙ sym (map-append unplaced (met p) (at t (repeated op p) ∷ []))
-  met_bare s t (chosen p) = part_met_bare p
-  met_bare s t (named n p) = part_met_bare p
-  met_bare s t (tupled ns p) = part_met_bare p
-  met_bare s t _ = refl
+-- the same is reached, up to spans
+abbrev IsMetBare : Part → Type 0
+IsMetBare p = (s t : Span) → map unplaced (met (at s (unplaced_kind (kind_of p)))) ≡ map unplaced (met (at t (kind_of p)))
 
-  part_met_bare : (p : Part) → map unplaced (met (unplaced p)) ≡ map unplaced (met p)
-  part_met_bare (at s k) = met_bare nowhere s k
+row_met_bare : (ps : Parts) → All IsMetBare ps → map unplaced (all_met (all_unplaced ps)) ≡ map unplaced (all_met ps)
+row_met_bare no_parts h = refl
+row_met_bare (part_and (at s k) ps) h =
+    map-append unplaced (met (at nowhere (unplaced_kind k))) (all_met (all_unplaced ps))
+    ∙ ap₂ (λ (xs ys : List Part). xs ++ ys) (h.0 nowhere s) (row_met_bare ps h.1)
+    ∙ sym (map-append unplaced (met (at s k)) (all_met ps))
 
-  all_met_bare : (ps : Parts) → map unplaced (all_met (all_unplaced ps)) ≡ map unplaced (all_met ps)
-  all_met_bare no_parts = refl
-  all_met_bare (part_and p ps) =
-      map-append unplaced (met (unplaced p)) (all_met (all_unplaced ps))
-      ∙ ap₂ (λ (xs ys : List Part). xs ++ ys) (part_met_bare p) (all_met_bare ps)
-      ∙ sym (map-append unplaced (met p) (all_met ps))
+-- behind what is inside, the symbol itself
+last_bare : (s t : Span) (k : Kind) (xs ys : List Part) → map unplaced xs ≡ map unplaced ys → map unplaced (xs ++ at s (unplaced_kind k) ∷ []) ≡ map unplaced (ys ++ at t k ∷ [])
+last_bare s t k xs ys e =
+    map-append unplaced xs (at s (unplaced_kind k) ∷ [])
+    ∙ ap₂ (λ (zs : List Part) (l : Kind). zs ++ at nowhere l ∷ []) e (unplaced_twice k)
+    ∙ sym (map-append unplaced ys (at t k ∷ []))
+
+bare_step : (u : Span) (k : Kind) → All IsMetBare (inner k) → (s t : Span) → map unplaced (met (at s (unplaced_kind k))) ≡ map unplaced (met (at t k))
+bare_step u (group ps) h s t = last_bare s t (group ps) _ _ (row_met_bare ps h)
+bare_step u (call n ps) h s t = last_bare s t (call n ps) _ _ (row_met_bare ps h)
+bare_step u (repeated op (at v k)) h s t = last_bare s t (repeated op (at v k)) _ _ (h.0 nowhere v)
+bare_step u lookahead h s t = refl
+bare_step u lookbehind h s t = refl
+bare_step u k h s t =
+    ap (map unplaced) (sym (append-nil (met (at s (unplaced_kind k))))) ∙ row_met_bare (inner k) h ∙ ap (map unplaced) (append-nil (met (at t k)))
+
+pub met_bare : (s t : Span) (k : Kind) → map unplaced (met (at s (unplaced_kind k))) ≡ map unplaced (met (at t k))
+met_bare s t k = every IsMetBare bare_step (at nowhere k) s t
 
 -- at any span of a symbol
 pub met_moved : (s t : Span) (k : Kind) → map unplaced (met (at s k)) ≡ map unplaced (met (at t k))
@@ -95,6 +97,10 @@ has_left t (u ∷ ts) us h = by (bytes_eq u t) (has_left t ts us) h
     by : (b : Bool) → (has_text t ts ≡ true → has_text t (ts ++ us) ≡ true) → cond b true (has_text t ts) ≡ true → cond b true (has_text t (ts ++ us)) ≡ true
     by true deeper k = refl
     by false deeper k = deeper k
+
+unplaced_substituted : (f : List ℕ → Option Kind) (k : Kind) → unplaced_kind (kind_substituted f k) ≡ remade (unplaced_kind (substituted_leaf f k)) k (all_unplaced (all_substituted f (inner k)))
+unplaced_substituted f (group ps) = refl
+unplaced_substituted f _ = refl
 
 -- ---- lists that are reached alike
 
@@ -205,24 +211,28 @@ module _ (names : List ℕ → Bool) (start : List Part) where
     or_unplaced n None p e = ap (λ q. unplaced_kind (or_name n q)) e
     or_unplaced n (Some k) p e = ap (λ q. unplaced_kind (or_name n q)) e ∙ unplaced_twice k
 
-    mutual
-      kind_unplaced_so : (k : Kind) → unplaced_kind (kind_substituted whole k) ≡ unplaced_kind (kind_substituted arg k)
-      kind_unplaced_so (nonterminal n) = or_unplaced n (arg n) (whole n) (whole_is n)
-      kind_unplaced_so (ambiguous_id n) = or_unplaced n (arg n) (whole n) (whole_is n)
-      kind_unplaced_so (group ps) = ap group (all_unplaced_so ps)
-      kind_unplaced_so (call n ps) = ap (call n) (all_unplaced_so ps)
-      kind_unplaced_so (repeated op p) = ap (repeated op) (unplaced_so p)
-      kind_unplaced_so (chosen p) = ap chosen (unplaced_so p)
-      kind_unplaced_so (named n p) = ap (named n) (unplaced_so p)
-      kind_unplaced_so (tupled ns p) = ap (tupled ns) (unplaced_so p)
-      kind_unplaced_so _ = refl
+    abbrev IsUnplacedSo : Part → Type 0
+    IsUnplacedSo p = unplaced (substituted whole p) ≡ unplaced (substituted arg p)
 
-      unplaced_so : (p : Part) → unplaced (substituted whole p) ≡ unplaced (substituted arg p)
-      unplaced_so (at s k) = ap (at nowhere) (kind_unplaced_so k)
+    leaf_unplaced_so : (k : Kind) → unplaced_kind (substituted_leaf whole k) ≡ unplaced_kind (substituted_leaf arg k)
+    leaf_unplaced_so (nonterminal n) = or_unplaced n (arg n) (whole n) (whole_is n)
+    leaf_unplaced_so (ambiguous_id n) = or_unplaced n (arg n) (whole n) (whole_is n)
+    leaf_unplaced_so _ = refl
 
-      all_unplaced_so : (ps : Parts) → all_unplaced (all_substituted whole ps) ≡ all_unplaced (all_substituted arg ps)
-      all_unplaced_so no_parts = refl
-      all_unplaced_so (part_and p ps) = ap₂ part_and (unplaced_so p) (all_unplaced_so ps)
+    row_unplaced_so : (ps : Parts) → All IsUnplacedSo ps → all_unplaced (all_substituted whole ps) ≡ all_unplaced (all_substituted arg ps)
+    row_unplaced_so =
+        row_alike (λ p. unplaced (substituted whole p)) (λ p. unplaced (substituted arg p)) (λ ps. all_unplaced (all_substituted whole ps)) (λ ps. all_unplaced (all_substituted arg ps))
+        part_and refl (λ p ps. refl) (λ p ps. refl)
+
+    unplaced_step : (s : Span) (k : Kind) → All IsUnplacedSo (inner k) → IsUnplacedSo (at s k)
+    unplaced_step s k h =
+        ap (at nowhere) (unplaced_substituted whole k ∙ ap₂ (λ l qs. remade l k qs) (leaf_unplaced_so k) (row_unplaced_so (inner k) h) ∙ sym (unplaced_substituted arg k))
+
+    unplaced_so : (p : Part) → unplaced (substituted whole p) ≡ unplaced (substituted arg p)
+    unplaced_so = every IsUnplacedSo unplaced_step
+
+    all_unplaced_so : (ps : Parts) → all_unplaced (all_substituted whole ps) ≡ all_unplaced (all_substituted arg ps)
+    all_unplaced_so ps = row_unplaced_so ps (each IsUnplacedSo unplaced_step ps)
 
     -- a name, bound or not
     name_alike : (s : Span) (n : List ℕ) (o p q : Option Kind) → arg n ≡ o → p ≡ option_map replaced_kind o → q ≡ option_map unplaced_kind o →
@@ -240,33 +250,41 @@ module _ (names : List ℕ → Bool) (start : List Part) where
         subst (λ (xs : List Part). MeetAlike xs (vs ++ y ∷ []) (ws ++ z ∷ [])) (sym (map-append parts_replaced us (x ∷ [])))
         (alike_both (map parts_replaced us) vs ws (parts_replaced x ∷ []) (y ∷ []) (z ∷ []) h (alike_one (parts_replaced x) y z shown same spans))
 
-    mutual
-      pub part_alike : (p : Part) → MeetAlike (map parts_replaced (met (substituted shown p))) (met (substituted whole p)) (met (substituted arg p))
-      part_alike (at s (nonterminal n)) = name_alike s n (arg n) (shown n) (whole n) refl (shown_is n) (whole_is n)
-      part_alike (at s (ambiguous_id n)) = name_alike s n (arg n) (shown n) (whole n) refl (shown_is n) (whole_is n)
-      part_alike (at s (group ps)) =
-          joined_alike (all_met (all_substituted shown ps)) (all_met (all_substituted whole ps)) (all_met (all_substituted arg ps))
-          (at s (group (all_substituted shown ps))) (at s (group (all_substituted whole ps))) (at s (group (all_substituted arg ps))) (all_alike ps)
-          (ap (λ qs. at s (group qs)) (all_replaced_so arg shown shown_is ps)) (ap (λ qs. at nowhere (group qs)) (all_unplaced_so ps)) refl
-      part_alike (at s (call n ps)) =
-          joined_alike (all_met (all_substituted shown ps)) (all_met (all_substituted whole ps)) (all_met (all_substituted arg ps))
-          (at s (call n (all_substituted shown ps))) (at s (call n (all_substituted whole ps))) (at s (call n (all_substituted arg ps))) (all_alike ps)
-          (ap (λ qs. at s (call n qs)) (all_replaced_so arg shown shown_is ps)) (ap (λ qs. at nowhere (call n qs)) (all_unplaced_so ps)) refl
-      part_alike (at s (repeated op p)) =
-          joined_alike (met (substituted shown p)) (met (substituted whole p)) (met (substituted arg p))
-          (at s (repeated op (substituted shown p))) (at s (repeated op (substituted whole p))) (at s (repeated op (substituted arg p))) (part_alike p)
-          (ap (λ q. at s (repeated op q)) (replaced_so arg shown shown_is p)) (ap (λ q. at nowhere (repeated op q)) (unplaced_so p)) refl
-      part_alike (at s (chosen p)) = part_alike p
-      part_alike (at s (named n p)) = part_alike p
-      part_alike (at s (tupled ns p)) = part_alike p
-      part_alike (at s lookahead) = alike_one (at s lookahead) (at s lookahead) (at s lookahead) refl refl refl
-      part_alike (at s lookbehind) = alike_one (at s lookbehind) (at s lookbehind) (at s lookbehind) refl refl refl
-      part_alike (at s (terminal t)) = alike_none
-      part_alike (at s error_terminal) = alike_none
+    abbrev IsAlike : Part → Type 0
+    IsAlike p = MeetAlike (map parts_replaced (met (substituted shown p))) (met (substituted whole p)) (met (substituted arg p))
 
-      pub all_alike : (ps : Parts) → MeetAlike (map parts_replaced (all_met (all_substituted shown ps))) (all_met (all_substituted whole ps)) (all_met (all_substituted arg ps))
-      all_alike no_parts = alike_none
-      all_alike (part_and p ps) =
-          subst (λ (xs : List Part). MeetAlike xs (met (substituted whole p) ++ all_met (all_substituted whole ps)) (met (substituted arg p) ++ all_met (all_substituted arg ps)))
-          (sym (map-append parts_replaced (met (substituted shown p)) (all_met (all_substituted shown ps))))
-          (alike_both (map parts_replaced (met (substituted shown p))) (met (substituted whole p)) (met (substituted arg p)) _ _ _ (part_alike p) (all_alike ps))
+    rows_alike : (ps : Parts) → All IsAlike ps → MeetAlike (map parts_replaced (all_met (all_substituted shown ps))) (all_met (all_substituted whole ps)) (all_met (all_substituted arg ps))
+    rows_alike no_parts h = alike_none
+    rows_alike (part_and p ps) h =
+        subst (λ (xs : List Part). MeetAlike xs (met (substituted whole p) ++ all_met (all_substituted whole ps)) (met (substituted arg p) ++ all_met (all_substituted arg ps)))
+        (sym (map-append parts_replaced (met (substituted shown p)) (all_met (all_substituted shown ps))))
+        (alike_both (map parts_replaced (met (substituted shown p))) (met (substituted whole p)) (met (substituted arg p)) _ _ _ h.0 (rows_alike ps h.1))
+
+    -- with nothing behind it
+    alone : (us vs ws : List Part) → MeetAlike (map parts_replaced (us ++ [])) (vs ++ []) (ws ++ []) → MeetAlike (map parts_replaced us) vs ws
+    alone us vs ws h =
+        subst (λ (xs : List Part). MeetAlike (map parts_replaced xs) vs ws) (append-nil us)
+        (subst (λ (xs : List Part). MeetAlike (map parts_replaced (us ++ [])) xs ws) (append-nil vs)
+        (subst (λ (xs : List Part). MeetAlike (map parts_replaced (us ++ [])) (vs ++ []) xs) (append-nil ws) h))
+
+    alike_step : (s : Span) (k : Kind) → All IsAlike (inner k) → IsAlike (at s k)
+    alike_step s (nonterminal n) h = name_alike s n (arg n) (shown n) (whole n) refl (shown_is n) (whole_is n)
+    alike_step s (ambiguous_id n) h = name_alike s n (arg n) (shown n) (whole n) refl (shown_is n) (whole_is n)
+    alike_step s (group ps) h =
+        joined_alike (all_met (all_substituted shown ps)) (all_met (all_substituted whole ps)) (all_met (all_substituted arg ps))
+        (at s (group (all_substituted shown ps))) (at s (group (all_substituted whole ps))) (at s (group (all_substituted arg ps))) (rows_alike ps h)
+        (ap (λ qs. at s (group qs)) (all_replaced_so arg shown shown_is ps)) (ap (λ qs. at nowhere (group qs)) (all_unplaced_so ps)) refl
+    alike_step s (call n ps) h =
+        joined_alike (all_met (all_substituted shown ps)) (all_met (all_substituted whole ps)) (all_met (all_substituted arg ps))
+        (at s (call n (all_substituted shown ps))) (at s (call n (all_substituted whole ps))) (at s (call n (all_substituted arg ps))) (rows_alike ps h)
+        (ap (λ qs. at s (call n qs)) (all_replaced_so arg shown shown_is ps)) (ap (λ qs. at nowhere (call n qs)) (all_unplaced_so ps)) refl
+    alike_step s (repeated op p) h =
+        joined_alike (met (substituted shown p)) (met (substituted whole p)) (met (substituted arg p))
+        (at s (repeated op (substituted shown p))) (at s (repeated op (substituted whole p))) (at s (repeated op (substituted arg p))) h.0
+        (ap (λ q. at s (repeated op q)) (replaced_so arg shown shown_is p)) (ap (λ q. at nowhere (repeated op q)) (unplaced_so p)) refl
+    alike_step s lookahead h = alike_one (at s lookahead) (at s lookahead) (at s lookahead) refl refl refl
+    alike_step s lookbehind h = alike_one (at s lookbehind) (at s lookbehind) (at s lookbehind) refl refl refl
+    alike_step s k h = alone (met (substituted shown (at s k))) (met (substituted whole (at s k))) (met (substituted arg (at s k))) (rows_alike (inner k) h)
+
+    pub all_alike : (ps : Parts) → MeetAlike (map parts_replaced (all_met (all_substituted shown ps))) (all_met (all_substituted whole ps)) (all_met (all_substituted arg ps))
+    all_alike ps = rows_alike ps (each IsAlike alike_step ps)

@@ -1,12 +1,14 @@
 -- A round over ids and rewritten symbols is the round over the symbols: the errors are the same, the same is seen, up to spans,
 -- and what is new is on the worklist with its parts rewritten.
-use Rattle.std.proofs.Common.{◌≡◌, inl, inr, ℕ, List, [], ◌∷◌, ◌++◌, Bool, true, false, cond, map, Option, Some, None, option_map, is_some, refl, sym, ap, ap₂, ◌∙◌, subst}
+use Rattle.std.proofs.Common.{◌≡◌, inl, inr, ℕ, List, [], ◌∷◌, ◌++◌, Bool, true, false, cond, map, Option, Some, None, option_map, is_some, refl, sym, ap, ap₂, ◌∙◌, subst, append-nil}
 use Rattle.std.specs.Prelude.{not, ◌||◌, ◌&&◌}
 use Rattle.std.specs.List.{flat_map}
 use Rattle.std.proofs.lemmas.Bool.{and_parts}
 use Rattle.std.proofs.lemmas.List.{map-append}
-use Rattle.lalrpop_norm_tree.specs.Symbols.{Kind, Part, Parts, group, call, repeated, chosen, named, tupled, lookahead, lookbehind, at, no_parts, part_and}
+use Rattle.lalrpop_norm_tree.specs.Symbols.{Kind, Part, Parts, group, call, repeated, lookahead, lookbehind, at, no_parts, part_and}
+use Rattle.lalrpop_norm_tree_names.specs.declared.names.Span.{Span}
 use Rattle.lalrpop_norm_tree.specs.SymbolTexts.{part_text, kind_text}
+use Rattle.lalrpop_norm_tree.specs.Traversal.{inner}
 use Rattle.lalrpop_norm_tree.specs.Items.{AlternativeData, RuleData}
 use Rattle.lalrpop_norm_theory.specs.Rounds.{In}
 use Rattle.lalrpop_norm_theory.proofs.RoundsLemmas.{in_cases}
@@ -19,6 +21,7 @@ use Rattle.lalrpop_norm_nodes.proofs.ApartLemmas.{unplaced_same}
 use Rattle.lalrpop_norm_nodes.proofs.FirstLemmas.{first_more, first_at}
 use Rattle.lalrpop_norm_nodes.specs.Waits.{parts_replaced, first_met}
 use Rattle.lalrpop_norm_nodes.proofs.FirstMet.{has_text, fresh_after, text_is_seen, first_fresh}
+use Rattle.lalrpop_norm_nodes.proofs.InnerLemmas.{All, each}
 use Rattle.lalrpop_norm_nodes.proofs.MeetLemmas.{text_unplaced, first_bare, after_same, clash_same, were_left, were_right}
 use Rattle.lalrpop_norm_nodes.proofs.ShallowMeetings.{HaveTexts, MeetAlike}
 
@@ -77,21 +80,23 @@ module _ (names : List ℕ → Bool) (seen : List Part) where
     ]
   ]
 
-  mutual
-    part_inward : (p : Part) → IsInward (met p)
-    part_inward (at s (group ps)) = inward_self (all_met ps) (at s (group ps)) refl (all_inward ps)
-    part_inward (at s (call n ps)) = inward_self (all_met ps) (at s (call n ps)) refl (all_inward ps)
-    part_inward (at s (repeated op p)) = inward_self (met p) (at s (repeated op p)) refl (part_inward p)
-    part_inward (at s (chosen p)) = part_inward p
-    part_inward (at s (named n p)) = part_inward p
-    part_inward (at s (tupled ns p)) = part_inward p
-    part_inward (at s lookahead) = inward_self [] (at s lookahead) refl (λ q i h. absurd i)
-    part_inward (at s lookbehind) = inward_self [] (at s lookbehind) refl (λ q i h. absurd i)
-    part_inward (at s _) = λ q i h. absurd i
+  abbrev IsPartInward : Part → Type 0
+  IsPartInward p = IsInward (met p)
 
-    pub all_inward : (ps : Parts) → IsInward (all_met ps)
-    all_inward no_parts = λ q i h. absurd i
-    all_inward (part_and p ps) = inward_both (met p) (all_met ps) (part_inward p) (all_inward ps)
+  rows_inward : (ps : Parts) → All IsPartInward ps → IsInward (all_met ps)
+  rows_inward no_parts h = λ q i j. absurd i
+  rows_inward (part_and p ps) h = inward_both (met p) (all_met ps) h.0 (rows_inward ps h.1)
+
+  part_inward : (s : Span) (k : Kind) → All IsPartInward (inner k) → IsInward (met (at s k))
+  part_inward s (group ps) h = inward_self (all_met ps) (at s (group ps)) refl (rows_inward ps h)
+  part_inward s (call n ps) h = inward_self (all_met ps) (at s (call n ps)) refl (rows_inward ps h)
+  part_inward s (repeated op p) h = inward_self (met p) (at s (repeated op p)) refl h.0
+  part_inward s lookahead h = inward_self [] (at s lookahead) refl (λ q i j. absurd i)
+  part_inward s lookbehind h = inward_self [] (at s lookbehind) refl (λ q i j. absurd i)
+  part_inward s k h = subst (λ (xs : List Part). IsInward xs) (append-nil (met (at s k))) (rows_inward (inner k) h)
+
+  pub all_inward : (ps : Parts) → IsInward (all_met ps)
+  all_inward ps = rows_inward ps (each IsPartInward part_inward ps)
 
   pub rule_inward : (r : RuleData) → IsInward (met_in_rule r)
   rule_inward r = inward_each (λ (a : AlternativeData). all_met a.parts) r.alternatives (λ a. all_inward a.parts)

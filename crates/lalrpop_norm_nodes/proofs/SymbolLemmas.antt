@@ -1,30 +1,23 @@
 -- One symbol and several.
-use Rattle.std.proofs.Common.{◌≡◌, ℕ, ◌+◌, ◌<◌, Bool, true, false, cond, List, [], ◌∷◌, ◌++◌, length, take, drop, get_or, Some, None, is_some, refl, sym, ap, ◌∙◌, append-nil, Result}
-use Rattle.std.specs.List.{flat_map}
-use Rattle.std.specs.Result.{IsErrAnd}
-use Rattle.std.proofs.lemmas.List.{take_more, drop_more, take-append-drop}
-use Rattle.std.proofs.lemmas.Grind.{flat_map-append}
+use Rattle.std.proofs.Common.{◌≡◌, Bool, true, false, cond, [], ◌∷◌, ◌++◌, Some, None, is_some, refl, sym, ap, ◌∙◌, append-nil}
 use Rattle.lalrpop_norm_tree_names.specs.declared.names.Span.{Span}
-use Rattle.lalrpop_norm_tree.specs.declared.symbol.Symbol.{Symbol}
-use Rattle.lalrpop_norm_tree.specs.Symbols.{Kind, chosen, named, tupled, Part, at, kind_view, symbol_view, parts_view}
+use Rattle.lalrpop_norm_tree.specs.Symbols.{Kind, group, at}
 use Rattle.lalrpop_norm_tree.specs.SymbolTexts.{kind_text}
-use Rattle.lalrpop_norm_tree.proofs.SymbolViews.{seen_at}
-use Rattle.lalrpop_norm_faults.specs.declared.failure.NormFailure.{NormFailure}
-use Rattle.lalrpop_norm_faults.specs.Faults.{IsFirst, Refuses}
-use Rattle.lalrpop_norm_model.specs.PlainRules.{met, all_met}
+use Rattle.lalrpop_norm_model.specs.PlainRules.{then_itself, met}
 use Rattle.lalrpop_norm_model.specs.Replaced.{is_desugared}
-use Rattle.lalrpop_norm_nodes.specs.Meeting.{met_inside, own, met_itself, own_text}
-use Rattle.lalrpop_norm_nodes.proofs.MeetingLemmas.{refuses_same}
+use Rattle.lalrpop_norm_nodes.specs.Meeting.{met_inside, own, own_text}
 
 -- a symbol reaches what is inside it, then itself
-pub split_at : (s : Span) (k : Kind) → met (at s k) ≡ met_inside k ++ own s k
-split_at s (chosen q) = sym (append-nil (met q))
-split_at s (named n q) = sym (append-nil (met q))
-split_at s (tupled ns q) = sym (append-nil (met q))
-split_at s _ = refl
+reached_last : (s : Span) (k : Kind) → met (at s k) ≡ then_itself s k (met_inside k)
+reached_last s (group ps) = refl
+reached_last s _ = refl
 
-pub met_is : (s : Symbol) → met (symbol_view s) ≡ met_inside (kind_view s.kind) ++ met_itself (symbol_view s)
-met_is s = rw (seen_at s) (split_at s.span (kind_view s.kind))
+pub split_at : (s : Span) (k : Kind) → met (at s k) ≡ met_inside k ++ own s k
+split_at s k = reached_last s k ∙ by (is_desugared k)
+  where
+    by : (b : Bool) → cond b (met_inside k ++ at s k ∷ []) (met_inside k) ≡ met_inside k ++ cond b (at s k ∷ []) []
+    by true = refl
+    by false = sym (append-nil (met_inside k))
 
 -- whether it is desugared, by its text, and what it is then
 pub desugared : (s : Span) (k : Kind) (b : Bool) → is_some (own_text (at s k)) ≡ b → is_desugared k ≡ b

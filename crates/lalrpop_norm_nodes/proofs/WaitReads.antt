@@ -1,5 +1,5 @@
 -- What is added to the worklist where a symbol is read.
-use Rattle.std.proofs.Common.{◌≡◌, ℕ, ◌+◌, ◌<◌, length, take, get_or, List, [], ◌∷◌, ◌++◌, true, false, map, Option, Some, None, is_some, Bool, cond, true≢false, refl, sym, ap, ◌∙◌, subst}
+use Rattle.std.proofs.Common.{◌≡◌, ℕ, ◌+◌, ◌<◌, length, take, get_or, List, [], ◌∷◌, ◌++◌, true, false, map, Option, Some, None, is_some, cond, true≢false, refl, sym, ap, ◌∙◌, subst}
 use Rattle.std.specs.List.{flat_map}
 use Rattle.std.proofs.lemmas.List.{map-append}
 use Rattle.lalrpop_norm_tree_names.specs.declared.names.Span.{Span}
@@ -53,10 +53,10 @@ read_waits a b d e s h g =
     subst (λ (xs : List Part). LeavesWaiting a d xs) (sym split) (waits_both a b d _ _ h g)
 
 -- one that is not desugared does not
-pub kept_waits : (a b : Table) (s : Symbol) → is_some (own_text (at nowhere (kind_view s.kind))) ≡ false → IsNodeTable a → TableMeets a b [] → b.waiting ≡ a.waiting →
+pub kept_waits : (a b : Table) (s : Symbol) → is_some (own_text (symbol_view s)) ≡ false → IsNodeTable a → TableMeets a b [] → b.waiting ≡ a.waiting →
     LeavesWaiting a b (met_itself (symbol_view s))
 kept_waits a b s none table h same =
-    subst (λ (xs : List Part). LeavesWaiting a b xs) (sym (ap met_itself (seen_at s) ∙ own_if s.span (kind_view s.kind) false (desugared nowhere (kind_view s.kind) false none))) (waits_plain a b table h same)
+    subst (λ (xs : List Part). LeavesWaiting a b xs) (sym (ap met_itself (seen_at s) ∙ own_if s.span (kind_view s.kind) false (desugared s.span (kind_view s.kind) false (ap (λ (p : Part). is_some (own_text p)) (sym (seen_at s)) ∙ none)))) (waits_plain a b table h same)
 
 -- one that is does
 pub made_waits_itself : (a b : Table) (p : Part) → is_some (own_text p) ≡ true → LeavesWaiting a b (p ∷ []) → LeavesWaiting a b (met_itself p)
@@ -92,10 +92,7 @@ pub partly_waits : {D : Type 0} (m : D → List Part) (vs : List D) (i : ℕ) (w
     LeavesWaiting a b (flat_map m (take i vs)) → LeavesWaiting b c (m w) → LeavesWaiting a c (flat_map m (take (i + 1) vs))
 partly_waits m vs i w l e a b c h k = rw (met_more m vs i w l e) (waits_both a b c _ _ h k)
 
--- ---- whether a symbol is desugared, by its kind
-
-pub own_by_kind : (s : Symbol) (b : Bool) → b ≡ is_some (own_text (at nowhere (kind_view s.kind))) → is_some (own_text (symbol_view s)) ≡ b
-own_by_kind s b e = ap (λ (p : Part). is_some (own_text p)) (seen_at s) ∙ sym e
+-- ---- what is not desugared
 
 pub no_text : (o p : Option (List ℕ)) → o ≡ p → is_some p ≡ false → o ≡ None
 no_text o None e f = e

@@ -5,12 +5,12 @@ use Rattle.std.proofs.lemmas.Grind.{flat_map-append}
 use Rattle.std.proofs.lemmas.List.{map-append}
 use Rattle.lalrpop_norm_tree_names.specs.declared.names.Span.{Span}
 use Rattle.lalrpop_norm_tree.specs.declared.symbol.RepeatOp.TheVariants.{Star, Plus, Question, Times}
-use Rattle.lalrpop_norm_tree.specs.Symbols.{Kind, Part, Parts, argument_patterns_of, part_and, parts_of, group, ambiguous_id, terminal, nonterminal, call, repeated, chosen, named, tupled, lookahead, lookbehind, error_terminal, at}
+use Rattle.lalrpop_norm_tree.specs.Symbols.{Kind, Part, Parts, argument_patterns_of, part_and, parts_of, group, call, repeated, chosen, named, tupled, at}
 use Rattle.lalrpop_norm_tree.specs.SymbolTexts.{kind_text}
 use Rattle.lalrpop_norm_model.specs.PlainRules.{met, all_met}
 use Rattle.lalrpop_norm_model.specs.Replaced.{is_desugared}
 use Rattle.lalrpop_norm_nodes.specs.Apart.{nowhere, unplaced, all_unplaced}
-use Rattle.lalrpop_norm_nodes.specs.Meeting.{own, own_text, first_with_text, were_met}
+use Rattle.lalrpop_norm_nodes.specs.Meeting.{first_with_text, were_met}
 use Rattle.lalrpop_norm_nodes.proofs.InwardLemmas.{were_both}
 use Rattle.lalrpop_norm_nodes.proofs.SymbolLemmas.{split_at, desugared, own_if}
 use Rattle.lalrpop_norm_nodes.specs.declared.node.Node.{Node}
@@ -40,29 +40,21 @@ module _ (names : List ℕ → Bool) (ws : List Whole) (seen : List Part)
   -- the parts of a node that fits were reached
   pub inner_met : (n : Node) → Fits ws n → were_met names seen (inner_of (built ws n)) ≡ true
   inner_met (node.Leaf leaf.NoSymbols) h = refl
-  inner_met (node.Leaf leaf.NoPatterns) h = refl
-  inner_met (node.Leaf leaf.Lookahead) h = refl
-  inner_met (node.Leaf leaf.Lookbehind) h = refl
-  inner_met (node.Leaf leaf.Error) h = refl
   inner_met (node.NamedLeaf named_leaf.Rule a) h = refl
-  inner_met (node.NamedLeaf named_leaf.Pattern a) h = refl
-  inner_met (node.NamedLeaf named_leaf.MutPattern a) h = refl
-  inner_met (node.Terminal t) h = refl
   inner_met (node.Unary unary.Group l) h = all l _ h
   inner_met (node.Unary unary.Star n) h = all n _ h
   inner_met (node.Unary unary.Plus n) h = all n _ h
   inner_met (node.Unary unary.Question n) h = all n _ h
   inner_met (node.Unary (unary.Times c) n) h = all n _ h
   inner_met (node.Unary unary.Chosen n) h = all n _ h
-  inner_met (node.Unary unary.Several l) h = refl
   inner_met (node.NamedUnary named_unary.Call a l) h = all l _ h
   inner_met (node.NamedUnary named_unary.Named a n) h = all n _ h
   inner_met (node.NamedUnary named_unary.NamedMut a n) h = all n _ h
   inner_met (node.Binary binary.Symbols l n) h =
       subst (λ (xs : List Part). were_met names seen xs ≡ true) (sym (all_met_more (symbols_at ws l) (part_at ws n)))
       (were_both names seen (all_met (parts_of (symbols_at ws l))) (met (part_at ws n)) (all l _ h.0) (all n _ h.1))
-  inner_met (node.Binary binary.Patterns l n) h = refl
   inner_met (node.Binary binary.Tuple l n) h = all n _ h.1
+  inner_met _ h = refl
 
 -- ---- spans are off
 

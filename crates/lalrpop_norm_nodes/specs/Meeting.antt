@@ -1,28 +1,26 @@
 -- How the code reaches symbols, one after another: internal definitions, which no public contract clause mentions.
-use Rattle.std.specs.Prelude.{◌≡◌, ◌<◌, ℕ, Bool, true, false, not, ◌||◌, ◌&&◌, List, [], ◌∷◌, ◌++◌}
-use Rattle.std.specs.Prelude.{map, length, Option, Some, None, is_some, option_and_then, slice_get, bytes_eq, if◌then◌else◌}
+use Rattle.std.specs.Prelude.{ℕ, Bool, true, false, not, ◌||◌, ◌&&◌, List, [], ◌∷◌, ◌++◌}
+use Rattle.std.specs.Prelude.{Option, Some, None, is_some, bytes_eq, if◌then◌else◌}
 use Rattle.std.specs.HashSet.{HashSet, contains}
 use Rattle.lalrpop_norm_names.specs.declared.seeded.Seeded.{Seeded}
 use Rattle.lalrpop_norm_tree_names.specs.declared.names.Span.{Span}
-use Rattle.lalrpop_norm_tree.specs.Symbols.{Kind, Part, group, call, repeated, chosen, named, tupled, at, symbol_view}
+use Rattle.lalrpop_norm_tree.specs.Symbols.{Kind, Part, group, call, repeated, at}
 use Rattle.lalrpop_norm_tree.specs.SymbolTexts.{kind_text, part_text}
 use Rattle.lalrpop_norm_faults.specs.declared.kind.FaultKind.TheVariants.{SharedName}
 use Rattle.lalrpop_norm_faults.specs.Faults.{Fault, fault_if}
 use Rattle.lalrpop_norm_model.specs.PlainRules.{same_apart_from_spans, met, all_met}
 use Rattle.lalrpop_norm_model.specs.MadeRules.{span_of}
 use Rattle.lalrpop_norm_model.specs.Replaced.{is_desugared}
+use Rattle.lalrpop_norm_nodes.specs.Apart.{nowhere}
 
 -- ---- what a symbol reaches
 
--- what is inside it reaches
+-- what is inside it reaches: of a symbol that is not desugared, all that it reaches
 abbrev pub met_inside : Kind → List Part
 met_inside (group ps) = all_met ps
 met_inside (call n ps) = all_met ps
 met_inside (repeated op p) = met p
-met_inside (chosen p) = met p
-met_inside (named n p) = met p
-met_inside (tupled ns p) = met p
-met_inside _ = []
+met_inside k = if is_desugared k then [] else met (at nowhere k)
 
 -- the symbol itself, if it is desugared
 abbrev pub own : Span → Kind → List Part

@@ -10,9 +10,10 @@ use Rattle.lalrpop_norm_faults.specs.Faults.{Fault}
 use Rattle.lalrpop_norm_model.specs.PlainRules.{met, all_met}
 use Rattle.lalrpop_norm_nodes.specs.Apart.{nowhere, unplaced_kind, unplaced}
 use Rattle.lalrpop_norm_nodes.specs.Meeting.{met_inside, own, own_text, first_with_text, after, clash_faults, were_met, has_key}
+use Rattle.lalrpop_norm_nodes.specs.declared.node.Node.{Node}
 use Rattle.lalrpop_norm_nodes.specs.declared.table.Table.{Table}
 use Rattle.lalrpop_norm_nodes.specs.declared.table.Waiting.{Waiting}
-use Rattle.lalrpop_norm_nodes.specs.Wholes.{Whole, one_symbol, symbols, one_pattern, patterns, part_at, wholes, texts_of, AreNodes, StandsFor, Grows}
+use Rattle.lalrpop_norm_nodes.specs.Wholes.{Whole, one_symbol, symbols, one_pattern, patterns, part_at, built, wholes, texts_of, AreNodes, StandsFor, Grows}
 
 -- what the ids of a table stand for
 abbrev pub wholes_in : Table → List Whole
@@ -37,6 +38,10 @@ own_text_in (one_symbol k) = own_text (at nowhere k)
 own_text_in (symbols ps) = None
 own_text_in (one_pattern p) = None
 own_text_in (patterns ps) = None
+
+-- whether a node is that of a symbol that is desugared, whatever its ids stand for
+abbrev pub IsMadeNode : Node → Bool → Type 0
+IsMadeNode n made = (ws : List Whole) → is_some (own_text_in (built ws n)) ≡ made
 
 -- the symbols that were reached and are desugared, up to spans, in the order in which they were reached
 abbrev pub seen_in : Table → List Part

@@ -4,7 +4,9 @@ ghost use Rattle.lalrpop_norm_tree.specs.Symbols.{kind_view};
 ghost use Rattle.lalrpop_norm_nodes.specs.Given.{given_in, given_to};
 
 use lalrpop_norm_names::Names;
-use lalrpop_norm_tree::grammar::parse_tree::{NonterminalString, Symbol, SymbolKind};
+use lalrpop_norm_tree::grammar::parse_tree::{
+    GrammarSymbol, NonterminalString, Symbol, SymbolKind,
+};
 
 /// What a call binds an argument to (`given`).
 #[derive(Drop)]
@@ -41,18 +43,8 @@ pub fn given_in<'a>(environment: &Environment<'a>, name: &NonterminalString) -> 
 pub fn given_to<'a>(environment: &Environment<'a>, kind: &SymbolKind) -> Option<&'a Given>
     ensures { option_map (λ g. g.now) result ≡ given_to environment.now (kind_view kind.now) }
 {
-    match kind {
-        SymbolKind::Nonterminal(name) => given_in(environment, name),
-        SymbolKind::Expr(_)
-        | SymbolKind::AmbiguousId(_)
-        | SymbolKind::Terminal(_)
-        | SymbolKind::Macro(_)
-        | SymbolKind::Repeat(_)
-        | SymbolKind::Choose(_)
-        | SymbolKind::Name(_, _)
-        | SymbolKind::Tuple(_, _)
-        | SymbolKind::Lookahead
-        | SymbolKind::Lookbehind
-        | SymbolKind::Error => None,
+    match kind.as_grammar_symbol() {
+        Some(GrammarSymbol::Nonterminal(name)) => given_in(environment, name),
+        Some(GrammarSymbol::Terminal(_)) | Some(GrammarSymbol::Error) | None => None,
     }
 }

@@ -1,14 +1,13 @@
 //! Symbols read in an environment of ids, and rewritten in place.
-ghost use Rattle.std.specs.Prelude.{◌≡◌, true, IfOk, OnOk, is_some};
+ghost use Rattle.std.specs.Prelude.{◌≡◌, IfOk, OnOk};
 ghost use Rattle.lalrpop_norm_tree.specs.Symbols.{at, kind_view, symbol_view, parts_view, expr_view, macro_view};
 ghost use Rattle.lalrpop_norm_faults.specs.Faults.{Refuses};
-ghost use Rattle.lalrpop_norm_nodes.specs.Apart.{nowhere};
 ghost use Rattle.lalrpop_norm_nodes.specs.Meeting.{met_itself, own_text};
 ghost use Rattle.lalrpop_norm_nodes.specs.Reads.{CanRead, CanReadInside, SymbolRead, RepeatRead, RowRead, KindRead, GroupRead, CallRead};
 ghost use Rattle.lalrpop_norm_nodes.specs.Readings.{repeat_node, named_node, topped};
 ghost use Rattle.lalrpop_norm_nodes.specs.Waits.{LeavesWaiting};
 ghost use Rattle.lalrpop_norm_nodes.specs.Wholes.{Fits, built, StandsFor};
-ghost use Rattle.lalrpop_norm_nodes.specs.Tables.{wholes_in, own_at, own_text_in, IsNodeTable, IsCounted, TableMeets, refused_in};
+ghost use Rattle.lalrpop_norm_nodes.specs.Tables.{wholes_in, own_at, own_text_in, IsMadeNode, IsNodeTable, IsCounted, TableMeets, refused_in};
 
 use crate::given::{Environment, Given, given_to};
 use crate::node::{Binary, Leaf, NamedLeaf, NamedUnary, Node, Unary};
@@ -21,23 +20,23 @@ use lalrpop_norm_tree::grammar::parse_tree::{
 };
 use std::alloc::Global;
 
-/// Whether a symbol is desugared.
-fn is_made(kind: &SymbolKind) -> bool
-    ensures { result ≡ is_some (own_text (at nowhere (kind_view kind.now))) }
+/// Whether a node is that of a symbol that is desugared.
+fn is_made(node: &Node) -> bool
+    ensures { IsMadeNode node.now result }
 {
-    match kind {
-        SymbolKind::Expr(_)
-        | SymbolKind::Macro(_)
-        | SymbolKind::Repeat(_)
-        | SymbolKind::Lookahead
-        | SymbolKind::Lookbehind => true,
-        SymbolKind::AmbiguousId(_)
-        | SymbolKind::Terminal(_)
-        | SymbolKind::Nonterminal(_)
-        | SymbolKind::Choose(_)
-        | SymbolKind::Name(_, _)
-        | SymbolKind::Tuple(_, _)
-        | SymbolKind::Error => false,
+    match node {
+        Node::Leaf(Leaf::Lookahead | Leaf::Lookbehind)
+        | Node::NamedUnary(NamedUnary::Call, _, _)
+        | Node::Unary(
+            Unary::Group | Unary::Star | Unary::Plus | Unary::Question | Unary::Times(_),
+            _,
+        ) => true,
+        Node::Leaf(Leaf::NoSymbols | Leaf::NoPatterns | Leaf::Error)
+        | Node::NamedUnary(NamedUnary::Named | NamedUnary::NamedMut, _, _)
+        | Node::Unary(Unary::Chosen | Unary::Several, _)
+        | Node::NamedLeaf(_, _)
+        | Node::Terminal(_)
+        | Node::Binary(_, _, _) => false,
     }
 }
 
@@ -48,28 +47,6 @@ fn put_given(given: &Given, symbol: &mut Symbol) -> Result<usize, NoMemory>
 {
     symbol.kind = given.symbol.kind.clone()?;
     Ok(given.number)
-}
-
-/// Interns a symbol that is desugared, its parts rewritten, and rewrites it to the nonterminal of its text.
-fn make_symbol(
-    alloc: Global,
-    node: Node,
-    symbol: &mut Symbol,
-    table: &mut Table,
-) -> NormResult<usize>
-    requires table { IsNodeTable table.old }
-    requires counted { IsCounted table.old }
-    requires fits { Fits (wholes_in table.old) node }
-    requires text { own_text_in (built (wholes_in table.old) node) ≡ own_text (symbol_view symbol.old) }
-    requires made { is_some (own_text (symbol_view symbol.old)) ≡ true }
-    ensures refuses { Refuses result (refused_in table.old (own_at symbol.old.span (built (wholes_in table.old) node))) }
-    ensures meets { OnOk result (TableMeets table.old table.new (own_at symbol.old.span (built (wholes_in table.old) node))) }
-    ensures counted { OnOk result (IsCounted table.new) }
-    ensures waits { OnOk result (LeavesWaiting table.old table.new (met_itself (symbol_view symbol.old))) }
-    ensures value { OnOk result (symbol_view symbol.new ≡ topped (symbol_view symbol.old)) }
-    ensures number { IfOk result (λ i. StandsFor (wholes_in table.new) i (built (wholes_in table.old) node)) }
-{
-    table.enter_made(alloc, node, symbol)
 }
 
 /// Interns a symbol, its parts rewritten, and rewrites it.
@@ -90,8 +67,8 @@ fn enter_symbol(
     ensures value { OnOk result (symbol_view symbol.new ≡ topped (symbol_view symbol.old)) }
     ensures number { IfOk result (λ i. StandsFor (wholes_in table.new) i (built (wholes_in table.old) node)) }
 {
-    if is_made(&symbol.kind) {
-        return make_symbol(alloc, node, symbol, table);
+    if is_made(&node) {
+        return table.enter_made(alloc, node, symbol);
     }
     let number = table.enter(node)?;
     Ok(number)

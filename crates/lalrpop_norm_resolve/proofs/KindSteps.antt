@@ -9,19 +9,16 @@ use Rattle.lalrpop_norm_tree_names.specs.declared.names.TerminalString.{Terminal
 use Rattle.lalrpop_norm_tree.specs.declared.items.Alternative.{Alternative}
 use Rattle.lalrpop_norm_tree.specs.declared.symbol.ExprSymbol.{ExprSymbol}
 use Rattle.lalrpop_norm_tree.specs.declared.symbol.MacroSymbol.{MacroSymbol}
-use Rattle.lalrpop_norm_tree.specs.declared.symbol.Name.{Name}
 use Rattle.lalrpop_norm_tree.specs.declared.symbol.RepeatSymbol.{RepeatSymbol}
 use Rattle.lalrpop_norm_tree.specs.declared.symbol.Symbol.{Symbol}
 use Rattle.lalrpop_norm_tree.specs.declared.symbol.SymbolKind.{SymbolKind}
-use Rattle.lalrpop_norm_tree.specs.declared.symbol.SymbolKind.TheFolds.{fold_out-ExprSymbol, fold_out-MacroSymbol, fold_out-RepeatSymbol, fold-roll-SymbolKind, fold-roll-MacroSymbol}
-use Rattle.lalrpop_norm_tree.specs.declared.symbol.SymbolKind.TheOpen.{SymbolKind-F}
+use Rattle.lalrpop_norm_tree.specs.declared.symbol.SymbolKind.TheFolds.{fold-roll-MacroSymbol}
 use Rattle.lalrpop_norm_tree.specs.declared.symbol.SymbolKind.TheVariants as kind
-use Rattle.lalrpop_norm_tree.specs.declared.symbol.SymbolKind.TheViews.{rolls-Expr, rolls-Macro, rolls-Choose, rolls-Name, rolls-Tuple, rolls-Lookahead, rolls-Lookbehind, rolls-Error, roll-ExprSymbol, roll-MacroSymbol, out-ExprSymbol, out-MacroSymbol}
-use Rattle.lalrpop_norm_tree.specs.declared.symbol.Tuple.{Tuple}
+use Rattle.lalrpop_norm_tree.specs.declared.symbol.SymbolKind.TheViews.{roll-ExprSymbol, roll-MacroSymbol, out-ExprSymbol, out-MacroSymbol}
 use Rattle.lalrpop_norm_tree.specs.Items.{alternative_view}
-use Rattle.lalrpop_norm_tree.specs.Symbols.{Kind, Part, Parts, Call, Again, group, terminal, call, repeated, chosen, named, tupled, lookahead, lookbehind, error_terminal, at, kind_step, expr_step, macro_step, repeat_step, symbol_step, kind_view, symbol_view, expr_view, macro_view, repeat_view, tuple_view, parts_view}
-use Rattle.lalrpop_norm_tree.proofs.KindLevels.{repeated_symbol}
-use Rattle.lalrpop_norm_tree.proofs.SymbolViews.{symbol_seen, seen_at, group_seen, repeat_seen, ambiguous_seen, terminal_seen, repeated_seen}
+use Rattle.lalrpop_norm_tree.specs.Symbols.{Kind, Part, Parts, Call, Again, group, terminal, call, repeated, lookahead, lookbehind, error_terminal, at, kind_step, expr_step, macro_step, repeat_step, symbol_step, kind_view, symbol_view, expr_view, macro_view, repeat_view, parts_view}
+use Rattle.lalrpop_norm_tree.proofs.KindLevels.{group_is, call_is, repeat_is, lookahead_is, lookbehind_is, error_is, symbols_of, called_with, repeated_symbol}
+use Rattle.lalrpop_norm_tree.proofs.SymbolViews.{symbol_seen, seen_at, group_seen, repeat_seen, ambiguous_seen, terminal_seen}
 use Rattle.lalrpop_norm_faults.specs.declared.failure.NormFailure.{NormFailure}
 use Rattle.lalrpop_norm_faults.specs.Faults.{Fault, IsFirst, Refuses}
 use Rattle.lalrpop_norm_faults.proofs.FaultLemmas.{first_of_more}
@@ -60,38 +57,8 @@ told_from r e here all P from h same = told_exit r e here [] all P from h (same 
 
 -- ---- views
 
-group_is : (g : ExprSymbol) → expr_view g ≡ parts_view (out-ExprSymbol g).symbols.items
-group_is g = fold_out-ExprSymbol Kind Parts Call Again Part kind_step expr_step macro_step repeat_step symbol_step g
-
-call_is : (m : MacroSymbol) → macro_view m ≡ ((out-MacroSymbol m).name.0, parts_view (out-MacroSymbol m).args.items)
-call_is m = fold_out-MacroSymbol Kind Parts Call Again Part kind_step expr_step macro_step repeat_step symbol_step m
-
 call_seen : (n : NonterminalString) (v : Vec Symbol Global) → macro_view (roll-MacroSymbol (record { name = n; args = v })) ≡ (n.0, parts_view v.items)
 call_seen n v = fold-roll-MacroSymbol Kind Parts Call Again Part kind_step expr_step macro_step repeat_step symbol_step (record { name = n; args = v })
-
-grouped_seen : (x : ExprSymbol) → kind_view (kind.Expr x) ≡ group (expr_view x)
-grouped_seen x = ap kind_view (sym (rolls-Expr x)) ∙ fold-roll-SymbolKind Kind Parts Call Again Part kind_step expr_step macro_step repeat_step symbol_step (SymbolKind-F.Expr x)
-
-called_seen : (m : MacroSymbol) → kind_view (kind.Macro m) ≡ call (macro_view m).0 (macro_view m).1
-called_seen m = ap kind_view (sym (rolls-Macro m)) ∙ fold-roll-SymbolKind Kind Parts Call Again Part kind_step expr_step macro_step repeat_step symbol_step (SymbolKind-F.Macro m)
-
-chosen_seen : (b : Box Symbol Global) → kind_view (kind.Choose b) ≡ chosen (symbol_view b.value)
-chosen_seen b = ap kind_view (sym (rolls-Choose b)) ∙ fold-roll-SymbolKind Kind Parts Call Again Part kind_step expr_step macro_step repeat_step symbol_step (SymbolKind-F.Choose b)
-
-named_seen : (n : Name) (b : Box Symbol Global) → kind_view (kind.Name n b) ≡ named n (symbol_view b.value)
-named_seen n b = ap kind_view (sym (rolls-Name n b)) ∙ fold-roll-SymbolKind Kind Parts Call Again Part kind_step expr_step macro_step repeat_step symbol_step (SymbolKind-F.Name n b)
-
-tupled_seen : (t : Tuple) (b : Box Symbol Global) → kind_view (kind.Tuple t b) ≡ tupled (tuple_view t) (symbol_view b.value)
-tupled_seen t b = ap kind_view (sym (rolls-Tuple t b)) ∙ fold-roll-SymbolKind Kind Parts Call Again Part kind_step expr_step macro_step repeat_step symbol_step (SymbolKind-F.Tuple t b)
-
-lookahead_seen : kind_view kind.Lookahead ≡ lookahead
-lookahead_seen = ap kind_view (sym rolls-Lookahead) ∙ fold-roll-SymbolKind Kind Parts Call Again Part kind_step expr_step macro_step repeat_step symbol_step SymbolKind-F.Lookahead
-
-lookbehind_seen : kind_view kind.Lookbehind ≡ lookbehind
-lookbehind_seen = ap kind_view (sym rolls-Lookbehind) ∙ fold-roll-SymbolKind Kind Parts Call Again Part kind_step expr_step macro_step repeat_step symbol_step SymbolKind-F.Lookbehind
-
-error_seen : kind_view kind.Error ≡ error_terminal
-error_seen = ap kind_view (sym rolls-Error) ∙ fold-roll-SymbolKind Kind Parts Call Again Part kind_step expr_step macro_step repeat_step symbol_step SymbolKind-F.Error
 
 grouped_now : (g : ExprSymbol) (ss : List Symbol) → length ss ≡ (out-ExprSymbol g).symbols.len →
     expr_view (roll-ExprSymbol (record { symbols = with_items (out-ExprSymbol g).symbols ss })) ≡ parts_view ss
@@ -137,21 +104,14 @@ module _ (sense : List ℕ → Option Sense) (s : Span) (k : SymbolKind) where
       told_more r _ _ P _ (ap (λ x. kind_name_faults sense s x) (sym was)) (λ p. now ∙ more p ∙ ap (λ x. resolved_kind sense x) (sym was)) h
 
   module _ {T : Type 0} (r : Result T NormFailure) where
-    pub chosen_told : (b new : Box Symbol Global) → k ≡ kind.Choose b →
-        Told r (part_name_faults sense (symbol_view b.value)) (symbol_view new.value ≡ resolved_part sense (symbol_view b.value)) → KindTold r (kind.Choose new)
-    chosen_told b new of h = seen_so r _ _ _ _ (ap kind_view of ∙ chosen_seen b) (chosen_seen new) (λ e. ap chosen e) h
-
-    pub named_told : (n : Name) (b new : Box Symbol Global) → k ≡ kind.Name n b →
-        Told r (part_name_faults sense (symbol_view b.value)) (symbol_view new.value ≡ resolved_part sense (symbol_view b.value)) → KindTold r (kind.Name n new)
-    named_told n b new of h = seen_so r _ _ _ _ (ap kind_view of ∙ named_seen n b) (named_seen n new) (λ e. ap (named n) e) h
-
-    pub tupled_told : (t : Tuple) (b new : Box Symbol Global) → k ≡ kind.Tuple t b →
-        Told r (part_name_faults sense (symbol_view b.value)) (symbol_view new.value ≡ resolved_part sense (symbol_view b.value)) → KindTold r (kind.Tuple t new)
-    tupled_told t b new of h = seen_so r _ _ _ _ (ap kind_view of ∙ tupled_seen t b) (tupled_seen t new) (λ e. ap (tupled (tuple_view t)) e) h
+    -- a wrapper: the symbol in it
+    pub wrapped_told : (f : Part → Kind) (p now : Part) (new : SymbolKind) → kind_view k ≡ f p → kind_view new ≡ f now → kind_name_faults sense s (f p) ≡ part_name_faults sense p →
+        resolved_kind sense (f p) ≡ f (resolved_part sense p) → Told r (part_name_faults sense p) (now ≡ resolved_part sense p) → KindTold r new
+    wrapped_told f p now new was is faults resolved h = seen_so r new _ _ _ was is (λ e. ap f e ∙ sym resolved) (told_more r _ _ _ _ (sym faults) (λ e. e) h)
 
     pub repeated_told : (b new : Box RepeatSymbol Global) → k ≡ kind.Repeat b →
         Told r (part_name_faults sense (repeat_view b.value).1) (repeat_view new.value ≡ ((repeat_view b.value).0, resolved_part sense (repeat_view b.value).1)) → KindTold r (kind.Repeat new)
-    repeated_told b new of h = seen_so r _ _ _ _ (ap kind_view of ∙ repeated_seen b) (repeated_seen new) (λ e. ap (λ (a : Again). repeated a.0 a.1) e) h
+    repeated_told b new of h = seen_so r _ _ _ _ (repeat_is k b of) (repeat_is (kind.Repeat new) new refl) (λ e. ap (λ (a : Again). repeated a.0 a.1) e) h
 
     pub ambiguous_told : (a : List ℕ) (new : SymbolKind) → k ≡ kind.AmbiguousId a → Told r (id_faults s (sense a)) (kind_view new ≡ by_sense (sense a) a) → KindTold r new
     ambiguous_told a new of h = seen_so r new _ _ _ (ap kind_view of ∙ ambiguous_seen a) refl (λ e. e) h
@@ -160,7 +120,7 @@ module _ (sense : List ℕ → Option Sense) (s : Span) (k : SymbolKind) where
         Told r (parts_name_faults sense (parts_view now)) (parts_view new ≡ resolved_parts sense (parts_view now)) →
         KindTold r (kind.Expr (roll-ExprSymbol (record { symbols = with_items (out-ExprSymbol g).symbols new })))
     group_told g now new of is long h =
-        seen_so r _ (group (parts_view now)) (group (parts_view new)) _ (ap kind_view of ∙ grouped_seen g ∙ ap group (group_is g ∙ ap parts_view (sym is))) (grouped_seen _ ∙ ap group (grouped_now g new long)) (λ e. ap group e) h
+        seen_so r _ (group (parts_view now)) (group (parts_view new)) _ (group_is k g of ∙ ap group (symbols_of g ∙ ap parts_view (sym is))) (group_is _ _ refl ∙ ap group (grouped_now g new long)) (λ e. ap group e) h
 
   -- what holds no name
   plain : {T : Type 0} (x : T) (v : Kind) → kind_view k ≡ v → kind_name_faults sense s v ≡ [] → v ≡ resolved_kind sense v → KindTold (Ok x) k
@@ -171,29 +131,25 @@ module _ (sense : List ℕ → Option Sense) (s : Span) (k : SymbolKind) where
 
   pub plain_told : ((y : TerminalString) × (k ≡ kind.Terminal y)) ⊎ ((k ≡ kind.Lookahead) ⊎ ((k ≡ kind.Lookbehind) ⊎ (k ≡ kind.Error))) → KindTold {T = Unit {0}} (Ok (tt {0})) k
   plain_told (inl (y, of)) = plain (tt {0}) (terminal y) (ap kind_view of ∙ terminal_seen y) refl refl
-  plain_told (inr (inl of)) = plain (tt {0}) lookahead (ap kind_view of ∙ lookahead_seen) refl refl
-  plain_told (inr (inr (inl of))) = plain (tt {0}) lookbehind (ap kind_view of ∙ lookbehind_seen) refl refl
-  plain_told (inr (inr (inr of))) = plain (tt {0}) error_terminal (ap kind_view of ∙ error_seen) refl refl
+  plain_told (inr (inl of)) = plain (tt {0}) lookahead (lookahead_is k of) refl refl
+  plain_told (inr (inr (inl of))) = plain (tt {0}) lookbehind (lookbehind_is k of) refl refl
+  plain_told (inr (inr (inr of))) = plain (tt {0}) error_terminal (error_is k of) refl refl
 
   pub ambiguous_faults : (a : List ℕ) → k ≡ kind.AmbiguousId a → kind_name_faults sense s (kind_view k) ≡ id_faults s (sense a)
   ambiguous_faults a of = ap (λ x. kind_name_faults sense s x) (ap kind_view of ∙ ambiguous_seen a)
-
-  pub group_faults : (g : ExprSymbol) (now : List Symbol) → k ≡ kind.Expr g → now ≡ (out-ExprSymbol g).symbols.items →
-      kind_name_faults sense s (kind_view k) ≡ parts_name_faults sense (parts_view now)
-  group_faults g now of is = ap (λ x. kind_name_faults sense s x) (ap kind_view of ∙ grouped_seen g ∙ ap group (group_is g ∙ ap parts_view (sym is)))
 
   -- a call: its macro, then its arguments
   module _ (m : MacroSymbol) (now : List Symbol) (of : k ≡ kind.Macro m) (is : now ≡ (out-MacroSymbol m).args.items) where
     call_was : kind_view k ≡ call (out-MacroSymbol m).name.0 (parts_view now)
     call_was =
-        ap kind_view of ∙ called_seen m ∙ ap (λ (o : Call). call o.0 o.1) (call_is m)
+        call_is k m of ∙ ap (λ (o : Call). call o.0 o.1) (called_with m)
         ∙ ap (λ xs. call (out-MacroSymbol m).name.0 (parts_view xs)) (sym is)
 
     pub call_faults : kind_name_faults sense s (kind_view k)
         ≡ macro_name_faults s (parts_count (parts_view now)) (sense (out-MacroSymbol m).name.0) ++ parts_name_faults sense (parts_view now)
     call_faults = ap (λ x. kind_name_faults sense s x) call_was
 
-    pub argument_faults : macro_name_faults s (parts_count (parts_view now)) (sense (out-MacroSymbol m).name.0) ≡ [] →
+    argument_faults : macro_name_faults s (parts_count (parts_view now)) (sense (out-MacroSymbol m).name.0) ≡ [] →
         kind_name_faults sense s (kind_view k) ≡ parts_name_faults sense (parts_view now)
     argument_faults none = call_faults ∙ ap (λ fs. fs ++ parts_name_faults sense (parts_view now)) none
 
@@ -203,7 +159,7 @@ module _ (sense : List ℕ → Option Sense) (s : Span) (k : SymbolKind) where
         KindTold r (kind.Macro (roll-MacroSymbol (record { name = (out-MacroSymbol h).name; args = with_items (out-MacroSymbol h).args new })))
     call_told r h new same long none told =
         told_more r _ _ _ _ (sym (argument_faults none))
-        (λ e. called_seen _ ∙ ap (λ (o : Call). call o.0 o.1) (called_now h new long) ∙ ap (λ x. call (out-MacroSymbol x).name.0 (parts_view new)) same
+        (λ e. call_is _ _ refl ∙ ap (λ (o : Call). call o.0 o.1) (called_now h new long) ∙ ap (λ x. call (out-MacroSymbol x).name.0 (parts_view new)) same
         ∙ ap (λ ps. call (out-MacroSymbol m).name.0 ps) e ∙ ap (λ x. resolved_kind sense x) (sym call_was)) told
 
 -- ---- alternatives
@@ -211,7 +167,7 @@ module _ (sense : List ℕ → Option Sense) (s : Span) (k : SymbolKind) where
 module _ (sense : List ℕ → Option Sense) (a : Alternative) (now : List Symbol) (is : now ≡ (out-ExprSymbol a.expr).symbols.items) where
   pub alternative_faults : alternative_name_faults sense (alternative_view a) ≡ condition_faults sense a.condition ++ parts_name_faults sense (parts_view now)
   unfolding alternative_name_faults
-  alternative_faults = ap (λ ps. condition_faults sense a.condition ++ parts_name_faults sense ps) (group_is a.expr ∙ ap parts_view (sym is))
+  alternative_faults = ap (λ ps. condition_faults sense a.condition ++ parts_name_faults sense ps) (symbols_of a.expr ∙ ap parts_view (sym is))
 
   pub symbol_faults : condition_faults sense a.condition ≡ [] → alternative_name_faults sense (alternative_view a) ≡ parts_name_faults sense (parts_view now)
   symbol_faults none = alternative_faults ∙ ap (λ fs. fs ++ parts_name_faults sense (parts_view now)) none
@@ -222,4 +178,4 @@ module _ (sense : List ℕ → Option Sense) (a : Alternative) (now : List Symbo
       (alternative_view (record a { expr = roll-ExprSymbol (record { symbols = with_items (out-ExprSymbol a.expr).symbols new }) }) ≡ resolved_alternative sense (alternative_view a))
   alternative_told r new long none h =
       told_more r _ _ _ _ (sym (symbol_faults none))
-      (λ e. ap (λ ps. record (alternative_view a) { parts = ps }) (grouped_now a.expr new long ∙ e ∙ ap (λ ps. resolved_parts sense ps) (ap parts_view is ∙ sym (group_is a.expr)))) h
+      (λ e. ap (λ ps. record (alternative_view a) { parts = ps }) (grouped_now a.expr new long ∙ e ∙ ap (λ ps. resolved_parts sense ps) (ap parts_view is ∙ sym (symbols_of a.expr)))) h

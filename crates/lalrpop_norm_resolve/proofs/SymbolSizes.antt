@@ -1,15 +1,13 @@
 -- What the walk over symbols goes down by: what a symbol holds is less deep than the symbol.
-use Rattle.std.proofs.Common.{◌≡◌, ℕ, ◌+◌, ◌*◌, ◌<◌, ◌≤◌, length, get_or, slice_index_or, List, Box, Global, arith}
+use Rattle.std.proofs.Common.{◌≡◌, ℕ, ◌+◌, ◌*◌, ◌<◌, ◌≤◌, length, get_or, slice_index_or, List, arith}
 use denote.Param.Weighed.{most, at_most}
 use Rattle.lalrpop_norm_tree.specs.declared.symbol.ExprSymbol.{ExprSymbol}
 use Rattle.lalrpop_norm_tree.specs.declared.symbol.MacroSymbol.{MacroSymbol}
-use Rattle.lalrpop_norm_tree.specs.declared.symbol.Name.{Name}
 use Rattle.lalrpop_norm_tree.specs.declared.symbol.RepeatSymbol.{RepeatSymbol}
 use Rattle.lalrpop_norm_tree.specs.declared.symbol.Symbol.{Symbol}
 use Rattle.lalrpop_norm_tree.specs.declared.symbol.SymbolKind.{SymbolKind}
 use Rattle.lalrpop_norm_tree.specs.declared.symbol.SymbolKind.TheVariants as kind
-use Rattle.lalrpop_norm_tree.specs.declared.symbol.SymbolKind.TheViews.{size-Symbol, size-SymbolKind, size-RepeatSymbol, size_is-Symbol, size_is-RepeatSymbol, size_is-ExprSymbol, size_is-MacroSymbol, sized-Choose, sized-Name, sized-Tuple, sized-Repeat, sized-Expr, sized-Macro, out-ExprSymbol, out-MacroSymbol}
-use Rattle.lalrpop_norm_tree.specs.declared.symbol.Tuple.{Tuple}
+use Rattle.lalrpop_norm_tree.specs.declared.symbol.SymbolKind.TheViews.{size-Symbol, size-SymbolKind, size-RepeatSymbol, size_is-Symbol, size_is-RepeatSymbol, size_is-ExprSymbol, size_is-MacroSymbol, sized-Expr, sized-Macro, out-ExprSymbol, out-MacroSymbol}
 
 module _ (t : ℕ) where
   pub to_kind : (s : Symbol) → 2 * size-Symbol s + 0 ≡ t → 2 * size-SymbolKind s.kind + 0 < t
@@ -26,18 +24,6 @@ module _ (t : ℕ) where
   to_one now ss i d h rest is = rw (rest i d (omega arith)) (omega (arith, at_most size-Symbol ss i d h))
 
   module _ (k : SymbolKind) where
-    pub to_chosen : (b : Box Symbol Global) → k ≡ kind.Choose b → 2 * size-SymbolKind k + 0 ≡ t → 2 * size-Symbol b.value + 1 < t
-    to_chosen b of is = omega (arith, rw (of) at is, sized-Choose b)
-
-    pub to_named : (n : Name) (b : Box Symbol Global) → k ≡ kind.Name n b → 2 * size-SymbolKind k + 0 ≡ t → 2 * size-Symbol b.value + 1 < t
-    to_named n b of is = omega (arith, rw (of) at is, sized-Name n b)
-
-    pub to_tupled : (x : Tuple) (b : Box Symbol Global) → k ≡ kind.Tuple x b → 2 * size-SymbolKind k + 0 ≡ t → 2 * size-Symbol b.value + 1 < t
-    to_tupled x b of is = omega (arith, rw (of) at is, sized-Tuple x b)
-
-    pub to_repeat : (b : Box RepeatSymbol Global) → k ≡ kind.Repeat b → 2 * size-SymbolKind k + 0 ≡ t → 2 * size-RepeatSymbol b.value + 1 < t
-    to_repeat b of is = omega (arith, rw (of) at is, sized-Repeat b)
-
     pub to_items : (g : ExprSymbol) (ss : List Symbol) → k ≡ kind.Expr g → ss ≡ (out-ExprSymbol g).symbols.items → 2 * size-SymbolKind k + 0 ≡ t → 2 * most size-Symbol ss + 1 < t
     to_items g ss of at is = rw (at) (omega (arith, rw (of) at is, sized-Expr g, size_is-ExprSymbol g))
 

@@ -1,8 +1,8 @@
 //! Global names.
-ghost use Rattle.std.specs.Prelude.{◌≡◌, [], ◌∷◌, OnOk, flat_map, map, option_map};
-ghost use Rattle.lalrpop_norm_tree.specs.Items.{conversion_view, enum_token_view, item_view, match_contents_view};
+ghost use Rattle.std.specs.Prelude.{◌≡◌, [], ◌∷◌, OnOk, flat_map, map};
+ghost use Rattle.lalrpop_norm_tree.specs.Items.{conversion_view, item_view, match_contents_view};
 ghost use Rattle.lalrpop_norm_faults.specs.Faults.{IsFirst, Refuses, RefusesOr};
-ghost use Rattle.lalrpop_norm_model.specs.Scopes.{rule_definition, bare_global, match_global, conversions_in};
+ghost use Rattle.lalrpop_norm_model.specs.Scopes.{rule_definition, bare_global, match_global};
 ghost use Rattle.lalrpop_norm_model.specs.Scopes.{rule_globals, conversion_globals, match_globals};
 ghost use Rattle.lalrpop_norm_resolve.specs.NameFaults.{repeated_faults};
 ghost use Rattle.lalrpop_norm_resolve.specs.NameTables.{rows_of, def_of, with_def, with_all, all_rows, row_faults};
@@ -12,8 +12,7 @@ use super::seed::seeded_by;
 use super::{Def, GlobalTable};
 use lalrpop_norm_faults::{FaultKind, NormFailure, NormResult, refusal};
 use lalrpop_norm_tree::grammar::parse_tree::{
-    Atom, Conversion, EnumToken, GrammarItem, MatchContents, MatchItem, MatchMapping, Span,
-    TerminalString,
+    Atom, Conversion, GrammarItem, MatchContents, MatchItem, MatchMapping, Span, TerminalString,
 };
 use std::alloc::Global;
 use std::collections::HashMap;
@@ -35,8 +34,7 @@ fn declare_items(alloc: Global, globals: &mut GlobalTable, items: &[GrammarItem]
 {
     declare_rules(alloc, globals, items)?;
     declare_externs(alloc, globals, items)?;
-    declare_matches(alloc, globals, items)?;
-    Ok(())
+    declare_matches(alloc, globals, items)
 }
 
 /// Whether a name ends with a digit, as that of a level does.
@@ -176,28 +174,15 @@ fn declare_conversions(
     Ok(())
 }
 
-fn declare_enum(
-    alloc: Global,
-    globals: &mut GlobalTable,
-    tokens: &Option<EnumToken>,
-) -> NormResult<()>
-    ensures refuses { Refuses result
-        (rows_faults (rows_of globals.old) (flat_map conversion_global (conversions_in (option_map enum_token_view tokens.now)))) }
-    ensures declares { OnOk result (rows_of globals.new
-        ≡ with_all (rows_of globals.old) (flat_map conversion_global (conversions_in (option_map enum_token_view tokens.now)))) }
-{
-    match tokens {
-        Some(tokens) => declare_conversions(alloc, globals, &tokens.conversions),
-        None => Ok(()),
-    }
-}
-
 fn declare_extern(alloc: Global, globals: &mut GlobalTable, item: &GrammarItem) -> NormResult<()>
     ensures refuses { Refuses result (rows_faults (rows_of globals.old) (conversion_globals (item_view item.now))) }
     ensures declares { OnOk result (rows_of globals.new ≡ with_all (rows_of globals.old) (conversion_globals (item_view item.now))) }
 {
     match item {
-        GrammarItem::ExternToken(token) => declare_enum(alloc, globals, &token.enum_token),
+        GrammarItem::ExternToken(token) => match &token.enum_token {
+            Some(tokens) => declare_conversions(alloc, globals, &tokens.conversions),
+            None => Ok(()),
+        },
         GrammarItem::MatchToken(_)
         | GrammarItem::Nonterminal(_)
         | GrammarItem::InternToken(_)
@@ -244,14 +229,6 @@ fn declare_mappings(alloc: Global, globals: &mut GlobalTable, items: &[MatchItem
     Ok(())
 }
 
-fn declare_group(alloc: Global, globals: &mut GlobalTable, group: &MatchContents) -> NormResult<()>
-    ensures refuses { Refuses result (rows_faults (rows_of globals.old) (flat_map match_global (match_contents_view group.now))) }
-    ensures declares { OnOk result (rows_of globals.new
-        ≡ with_all (rows_of globals.old) (flat_map match_global (match_contents_view group.now))) }
-{
-    declare_mappings(alloc, globals, &group.items)
-}
-
 fn declare_groups(
     alloc: Global,
     globals: &mut GlobalTable,
@@ -263,7 +240,7 @@ fn declare_groups(
         ≡ with_all (rows_of globals.old) (flat_map (flat_map match_global) (map match_contents_view groups.now))) }
 {
     for group in groups {
-        declare_group(alloc, globals, group)?;
+        declare_mappings(alloc, globals, &group.items)?;
     }
     Ok(())
 }

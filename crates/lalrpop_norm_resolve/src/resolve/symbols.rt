@@ -242,10 +242,7 @@ fn resolve_kind(
     ensures resolves { OnOk result (kind_view kind.new ≡ resolved_kind (sense_in globals.now args.now) (kind_view kind.old)) }
 {
     match kind {
-        SymbolKind::Expr(expr) => {
-            resolve_each(alloc, globals, args, &mut expr.symbols)?;
-            Ok(())
-        }
+        SymbolKind::Expr(expr) => resolve_each(alloc, globals, args, &mut expr.symbols),
         SymbolKind::AmbiguousId(id) => {
             *kind = identified(alloc, globals, args, span, id)?;
             Ok(())
@@ -255,8 +252,7 @@ fn resolve_kind(
         }
         SymbolKind::Macro(call) => {
             check_call(alloc, globals, args, span, &call.name.0, &call.args)?;
-            resolve_each(alloc, globals, args, &mut call.args)?;
-            Ok(())
+            resolve_each(alloc, globals, args, &mut call.args)
         }
         SymbolKind::Repeat(repeat) => resolve_repeat(alloc, globals, args, repeat),
         SymbolKind::Choose(symbol) => resolve_boxed(alloc, globals, args, symbol),

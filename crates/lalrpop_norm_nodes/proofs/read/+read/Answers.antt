@@ -1,18 +1,17 @@
 use Rattle.std.proofs.Common.{◌∙◌, Ok, refl, ap, sym, option_map, arith}
 use borrow.Author.Count.{falls}
 use Rattle.lalrpop_norm_faults.specs.declared.failure.NormFailure.TheVariants.{Memory}
-use Rattle.lalrpop_norm_tree.proofs.SymbolViews.{nonterminal_seen}
+use Rattle.lalrpop_norm_tree.proofs.KindLevels.{chosen_is, named_is, tupled_is}
 use Rattle.lalrpop_norm_tree.specs.declared.symbol.RepeatSymbol.{RepeatSymbol}
 use Rattle.lalrpop_norm_tree.specs.declared.symbol.SymbolKind.TheVariants as kind
-use Rattle.lalrpop_norm_tree.specs.Symbols.{kind_view, symbol_view, expr_view, macro_view, parts_view}
+use Rattle.lalrpop_norm_tree.specs.declared.symbol.SymbolKind.TheViews.{sized-Choose, sized-Name, sized-Tuple, sized-Repeat, sized-Expr, sized-Macro}
+use Rattle.lalrpop_norm_tree.specs.Symbols.{kind_view, symbol_view}
 use Rattle.lalrpop_norm_nodes.specs.Readings.{repeat_node}
 use Rattle.lalrpop_norm_nodes.specs.Tables.{wholes_in}
 use Rattle.lalrpop_norm_nodes.proofs.EnteredReads.{entered_text, entered_read}
 use Rattle.lalrpop_norm_nodes.proofs.GroupReads.{group_read, call_read, refused_group, refused_call, group_kind, call_kind}
-use Rattle.lalrpop_norm_nodes.proofs.InsideReads.{tupled_seen}
-use Rattle.lalrpop_norm_nodes.proofs.KindReads.{refused_kind, lookahead_read, lookbehind_read, error_read, ambiguous_read, terminal_read, nonterminal_read, chosen_read, named_read, tuple_read, repeated_read}
-use Rattle.lalrpop_norm_nodes.proofs.KindsSeen.{again_seen, chosen_seen, named_seen}
-use Rattle.lalrpop_norm_nodes.proofs.ReadSizes.{to_kind, to_boxed, to_repeated, to_items, to_arguments, to_one, to_chosen, to_named, to_tupled, to_repeat, to_group, to_call}
+use Rattle.lalrpop_norm_nodes.proofs.KindReads.{again_is, refused_kind, lookahead_read, lookbehind_read, error_read, ambiguous_read, terminal_read, nonterminal_read, chosen_read, named_read, tuple_read, repeated_read}
+use Rattle.lalrpop_norm_nodes.proofs.ReadSizes.{to_kind, to_boxed, to_repeated, to_items, to_arguments, to_one}
 use Rattle.lalrpop_norm_nodes.proofs.RowItems.{stands_later, is_kind, are_symbols}
 use Rattle.lalrpop_norm_nodes.proofs.RowRounds.{refused_row, row_begun, row_further, row_stopped, row_ended}
 use Rattle.lalrpop_norm_nodes.proofs.SymbolReads.{symbol_as, refused_symbol, refused_inside, bound_read, repeat_read}
@@ -253,22 +252,22 @@ node_of-returns-in-Macro t c =
     call_kind r.result c.args.table.now r.new.table c.args.environment.now c.args.kind.now c.in-Macro.instance r.new.instance c.in-Macro.is r.ensures
 
 pub node_of-read_boxed-requires : goal.node_of-read_boxed-requires
-node_of-read_boxed-requires t c = (to_chosen t c.args.kind.now _ c.in-Choose.is c.decreases, record { table = c.requires.table; counted = c.requires.counted; given = c.requires.given })
+node_of-read_boxed-requires t c = (omega (arith, rw (c.in-Choose.is) at c.decreases, sized-Choose c.in-Choose.inner), record { table = c.requires.table; counted = c.requires.counted; given = c.requires.given })
 
 pub node_of-read_boxed-requires-in-Name : goal.node_of-read_boxed-requires-in-Name
-node_of-read_boxed-requires-in-Name t c = (to_named t c.args.kind.now _ _ c.in-Name.is c.decreases, record { table = c.requires.table; counted = c.requires.counted; given = c.requires.given })
+node_of-read_boxed-requires-in-Name t c = (omega (arith, rw (c.in-Name.is) at c.decreases, sized-Name c.in-Name.name c.in-Name.inner), record { table = c.requires.table; counted = c.requires.counted; given = c.requires.given })
 
 pub node_of-read_boxed-requires-in-Tuple : goal.node_of-read_boxed-requires-in-Tuple
-node_of-read_boxed-requires-in-Tuple t c = (to_tupled t c.args.kind.now _ _ c.in-Tuple.is c.decreases, record { table = c.requires.table; counted = c.requires.counted; given = c.requires.given })
+node_of-read_boxed-requires-in-Tuple t c = (omega (arith, rw (c.in-Tuple.is) at c.decreases, sized-Tuple c.in-Tuple.tuple c.in-Tuple.inner), record { table = c.requires.table; counted = c.requires.counted; given = c.requires.given })
 
 pub node_of-read_repeated-requires : goal.node_of-read_repeated-requires
-node_of-read_repeated-requires t c = (to_repeat t c.args.kind.now _ c.in-Repeat.is c.decreases, record { table = c.requires.table; counted = c.requires.counted; given = c.requires.given })
+node_of-read_repeated-requires t c = (omega (arith, rw (c.in-Repeat.is) at c.decreases, sized-Repeat c.in-Repeat.repeat), record { table = c.requires.table; counted = c.requires.counted; given = c.requires.given })
 
 pub node_of-read_group-requires : goal.node_of-read_group-requires
-node_of-read_group-requires t c = (to_group t c.args.kind.now _ c.in-Expr.is c.decreases, record { table = c.requires.table; counted = c.requires.counted; given = c.requires.given })
+node_of-read_group-requires t c = (omega (arith, rw (c.in-Expr.is) at c.decreases, sized-Expr c.in-Expr.expr), record { table = c.requires.table; counted = c.requires.counted; given = c.requires.given })
 
 pub node_of-read_call-requires : goal.node_of-read_call-requires
-node_of-read_call-requires t c = (to_call t c.args.kind.now _ c.in-Macro.is c.decreases, record { table = c.requires.table; counted = c.requires.counted; given = c.requires.given })
+node_of-read_call-requires t c = (omega (arith, rw (c.in-Macro.is) at c.decreases, sized-Macro c.in-Macro.instance), record { table = c.requires.table; counted = c.requires.counted; given = c.requires.given })
 
 -- ---- and their errors, passed on
 
@@ -291,13 +290,13 @@ pub node_of-returns-in_err-number-in-Choose : goal.node_of-returns-in_err-number
 node_of-returns-in_err-number-in-Choose t c =
     let f = c.from_residual-in_err-number-in-Choose in
     refused_kind f.result c.args.table.now c.read_boxed.new.table c.args.environment.now (kind_view c.args.kind.now) _ (kind_view (kind.Choose c.read_boxed.new.symbol)) c.in_err-number-in-Choose.field-0.0 f.ensures.1
-    (ap kind_view c.in-Choose.is ∙ chosen_seen c.in-Choose.inner) c.in_err-number-in-Choose.ensures.refuses
+    (chosen_is c.args.kind.now c.in-Choose.inner c.in-Choose.is) c.in_err-number-in-Choose.ensures.refuses
 
 pub node_of-returns-in_err-number-in-Name : goal.node_of-returns-in_err-number-in-Name
 node_of-returns-in_err-number-in-Name t c =
     let f = c.from_residual-in_err-number-in-Name in
     refused_kind f.result c.args.table.now c.read_boxed-in-Name.new.table c.args.environment.now (kind_view c.args.kind.now) _ (kind_view (kind.Name c.in-Name.name c.read_boxed-in-Name.new.symbol)) c.in_err-number-in-Name.field-0.0 f.ensures.1
-    (ap kind_view c.in-Name.is ∙ named_seen c.in-Name.name c.in-Name.inner) c.in_err-number-in-Name.ensures.refuses
+    (named_is c.args.kind.now c.in-Name.name c.in-Name.inner c.in-Name.is) c.in_err-number-in-Name.ensures.refuses
 
 pub node_of-returns-in_err-named_node-in-Name : goal.node_of-returns-in_err-named_node-in-Name
 node_of-returns-in_err-named_node-in-Name t c =
@@ -308,7 +307,7 @@ pub node_of-returns-in_err-number-in-Tuple : goal.node_of-returns-in_err-number-
 node_of-returns-in_err-number-in-Tuple t c =
     let f = c.from_residual-in_err-number-in-Tuple in
     refused_kind f.result c.args.table.now c.read_boxed-in-Tuple.new.table c.args.environment.now (kind_view c.args.kind.now) _ (kind_view (kind.Tuple c.in-Tuple.tuple c.read_boxed-in-Tuple.new.symbol)) c.in_err-number-in-Tuple.field-0.0 f.ensures.1
-    (ap kind_view c.in-Tuple.is ∙ tupled_seen c.in-Tuple.tuple c.in-Tuple.inner) c.in_err-number-in-Tuple.ensures.refuses
+    (tupled_is c.args.kind.now c.in-Tuple.tuple c.in-Tuple.inner c.in-Tuple.is) c.in_err-number-in-Tuple.ensures.refuses
 
 pub node_of-returns-in_err-row-in-Tuple : goal.node_of-returns-in_err-row-in-Tuple
 node_of-returns-in_err-row-in-Tuple t c =
@@ -319,4 +318,4 @@ pub node_of-returns-in_err-number-in-Repeat : goal.node_of-returns-in_err-number
 node_of-returns-in_err-number-in-Repeat t c =
     let f = c.from_residual-in_err-number-in-Repeat in
     refused_kind f.result c.args.table.now c.read_repeated.new.table c.args.environment.now (kind_view c.args.kind.now) _ (kind_view (kind.Repeat c.read_repeated.new.repeat)) c.in_err-number-in-Repeat.field-0.0 f.ensures.1
-    (ap kind_view c.in-Repeat.is ∙ again_seen c.in-Repeat.repeat) c.in_err-number-in-Repeat.ensures.refuses
+    (again_is c.args.kind.now c.in-Repeat.repeat c.in-Repeat.is) c.in_err-number-in-Repeat.ensures.refuses

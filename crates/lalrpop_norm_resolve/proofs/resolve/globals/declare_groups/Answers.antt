@@ -8,12 +8,12 @@ use Rattle.lalrpop_norm_resolve.proofs.resolve.globals.declare_groups.Goals as g
 
 pub loop-group-preserved : goal.loop-group-preserved
 loop-group-preserved c =
-    let told = c.in_ok-declare_group.ensures in
+    let told = rw (c.deref.ensures.value) at c.in_ok-declare_mappings.ensures in
     record {
       sound = step_faults (λ ys. flat_map (flat_map match_global) (map match_contents_view ys)) (λ y. flat_map match_global (match_contents_view y)) (λ y ys. refl) c.args.groups.now c.loop-group.group-index c.group-item.result (rows_of c.loop-group.globals) _ (omega arith) c.group-item.is _ told.refuses told.declares c.loop-group.invariant.sound;
       done = step_rows (λ ys. flat_map (flat_map match_global) (map match_contents_view ys)) (λ y. flat_map match_global (match_contents_view y)) (λ y ys. refl) c.args.groups.now c.loop-group.group-index c.group-item.result (rows_of c.loop-group.globals) _ (omega arith) c.group-item.is _ told.declares c.loop-group.invariant.done;
     }
 
-pub returns-in_err-declare_group-clause-refuses : goal.returns-in_err-declare_group-clause-refuses
-returns-in_err-declare_group-clause-refuses c =
-    exit_faults (λ ys. flat_map (flat_map match_global) (map match_contents_view ys)) (λ y. flat_map match_global (match_contents_view y)) (λ y ys. refl) c.args.groups.now c.loop-group.group-index c.group-item.result (rows_of c.loop-group.globals) (rows_of c.loop-group.globals) (omega arith) c.group-item.is _ _ _ c.from_residual.ensures.1 c.in_err-declare_group.ensures.refuses c.loop-group.invariant.sound
+pub returns-in_err-declare_mappings-clause-refuses : goal.returns-in_err-declare_mappings-clause-refuses
+returns-in_err-declare_mappings-clause-refuses c =
+    exit_faults (λ ys. flat_map (flat_map match_global) (map match_contents_view ys)) (λ y. flat_map match_global (match_contents_view y)) (λ y ys. refl) c.args.groups.now c.loop-group.group-index c.group-item.result (rows_of c.loop-group.globals) (rows_of c.loop-group.globals) (omega arith) c.group-item.is _ _ _ c.from_residual.ensures.1 (rw (c.deref.ensures.value) at c.in_err-declare_mappings.ensures.refuses) c.loop-group.invariant.sound

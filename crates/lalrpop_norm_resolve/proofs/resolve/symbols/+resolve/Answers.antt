@@ -1,15 +1,16 @@
-use Rattle.std.proofs.Common.{◌≡◌, Ok, refl, ap, sym, ◌∙◌}
+use Rattle.std.proofs.Common.{◌≡◌, Ok, refl, ap, sym, ◌∙◌, arith}
 use borrow.Author.Count.{falls}
 use Rattle.lalrpop_norm_tree.specs.declared.symbol.MacroSymbol.{MacroSymbol}
-use Rattle.lalrpop_norm_tree.specs.declared.symbol.SymbolKind.TheViews.{out-MacroSymbol, roll-out-MacroSymbol}
-use Rattle.lalrpop_norm_tree.specs.Symbols.{symbol_view, parts_of, parts_view}
+use Rattle.lalrpop_norm_tree.specs.declared.symbol.SymbolKind.TheViews.{out-MacroSymbol, roll-out-MacroSymbol, sized-Choose, sized-Name, sized-Tuple, sized-Repeat}
+use Rattle.lalrpop_norm_tree.specs.Symbols.{chosen, named, tupled, symbol_view, tuple_view, parts_of, parts_view}
+use Rattle.lalrpop_norm_tree.proofs.KindLevels.{chosen_is, named_is, tupled_is}
 use Rattle.lalrpop_norm_model.specs.Scopes.{resolved_part}
 use Rattle.lalrpop_norm_resolve.specs.NameFaults.{part_name_faults, parts_name_faults}
 use Rattle.lalrpop_norm_resolve.specs.NameTables.{sense_in}
 use Rattle.lalrpop_norm_resolve.proofs.NameLemmas.{resolved_one_by_one}
 use Rattle.lalrpop_norm_resolve.proofs.InPlace.{left_more, done_more, sound_more, exit_more, each_done, none_left}
-use Rattle.lalrpop_norm_resolve.proofs.KindSteps.{told_exit, told_from, symbol_told, boxed_told, again_told, ambiguous_told, ambiguous_faults, plain_told, chosen_told, named_told, tupled_told, repeated_told, group_told, group_faults, call_faults, argument_faults, call_told}
-use Rattle.lalrpop_norm_resolve.proofs.SymbolSizes.{to_kind, to_boxed, to_repeated, to_one, to_chosen, to_named, to_tupled, to_repeat, to_items, to_arguments}
+use Rattle.lalrpop_norm_resolve.proofs.KindSteps.{told_exit, told_from, symbol_told, boxed_told, again_told, ambiguous_told, ambiguous_faults, plain_told, wrapped_told, repeated_told, group_told, call_faults, call_told}
+use Rattle.lalrpop_norm_resolve.proofs.SymbolSizes.{to_kind, to_boxed, to_repeated, to_one, to_items, to_arguments}
 use Rattle.lalrpop_norm_resolve.proofs.resolve.symbols.+resolve.Goals as goal
 
 pub resolve_each-loop-symbol-init : goal.resolve_each-loop-symbol-init
@@ -78,54 +79,45 @@ resolve_kind-resolve_each-requires-in-Macro t c =
     (to_arguments t c.args.kind.now c.in-Macro.call c.deref_mut-in-Macro.result.now c.in-Macro.is is c.decreases, tt)
 
 pub resolve_kind-resolve_boxed-requires : goal.resolve_kind-resolve_boxed-requires
-resolve_kind-resolve_boxed-requires t c = (to_chosen t c.args.kind.now _ c.in-Choose.is c.decreases, tt)
+resolve_kind-resolve_boxed-requires t c = (omega (arith, rw (c.in-Choose.is) at c.decreases, sized-Choose c.in-Choose.symbol), tt)
 
 pub resolve_kind-resolve_boxed-requires-in-Name : goal.resolve_kind-resolve_boxed-requires-in-Name
-resolve_kind-resolve_boxed-requires-in-Name t c = (to_named t c.args.kind.now _ _ c.in-Name.is c.decreases, tt)
+resolve_kind-resolve_boxed-requires-in-Name t c = (omega (arith, rw (c.in-Name.is) at c.decreases, sized-Name c.in-Name.field-0 c.in-Name.symbol), tt)
 
 pub resolve_kind-resolve_boxed-requires-in-Tuple : goal.resolve_kind-resolve_boxed-requires-in-Tuple
-resolve_kind-resolve_boxed-requires-in-Tuple t c = (to_tupled t c.args.kind.now _ _ c.in-Tuple.is c.decreases, tt)
+resolve_kind-resolve_boxed-requires-in-Tuple t c = (omega (arith, rw (c.in-Tuple.is) at c.decreases, sized-Tuple c.in-Tuple.field-0 c.in-Tuple.symbol), tt)
 
 pub resolve_kind-resolve_repeat-requires : goal.resolve_kind-resolve_repeat-requires
-resolve_kind-resolve_repeat-requires t c = (to_repeat t c.args.kind.now _ c.in-Repeat.is c.decreases, tt)
+resolve_kind-resolve_repeat-requires t c = (omega (arith, rw (c.in-Repeat.is) at c.decreases, sized-Repeat c.in-Repeat.repeat), tt)
 
 pub resolve_kind-returns-in-Choose : goal.resolve_kind-returns-in-Choose
-resolve_kind-returns-in-Choose t c = chosen_told (sense_in c.args.globals.now c.args.args.now) c.args.span c.args.kind.now _ _ _ c.in-Choose.is c.resolve_boxed.ensures
+resolve_kind-returns-in-Choose t c =
+    wrapped_told (sense_in c.args.globals.now c.args.args.now) c.args.span c.args.kind.now _ chosen _ _ _ (chosen_is c.args.kind.now _ c.in-Choose.is) (chosen_is _ _ refl) refl refl c.resolve_boxed.ensures
 
 pub resolve_kind-returns-in-Name : goal.resolve_kind-returns-in-Name
-resolve_kind-returns-in-Name t c = named_told (sense_in c.args.globals.now c.args.args.now) c.args.span c.args.kind.now _ _ _ _ c.in-Name.is c.resolve_boxed-in-Name.ensures
+resolve_kind-returns-in-Name t c =
+    wrapped_told (sense_in c.args.globals.now c.args.args.now) c.args.span c.args.kind.now _ (named c.in-Name.field-0) _ _ _ (named_is c.args.kind.now _ _ c.in-Name.is) (named_is _ _ _ refl) refl refl c.resolve_boxed-in-Name.ensures
 
 pub resolve_kind-returns-in-Tuple : goal.resolve_kind-returns-in-Tuple
-resolve_kind-returns-in-Tuple t c = tupled_told (sense_in c.args.globals.now c.args.args.now) c.args.span c.args.kind.now _ _ _ _ c.in-Tuple.is c.resolve_boxed-in-Tuple.ensures
+resolve_kind-returns-in-Tuple t c =
+    wrapped_told (sense_in c.args.globals.now c.args.args.now) c.args.span c.args.kind.now _ (tupled (tuple_view c.in-Tuple.field-0)) _ _ _ (tupled_is c.args.kind.now _ _ c.in-Tuple.is) (tupled_is _ _ _ refl) refl refl c.resolve_boxed-in-Tuple.ensures
 
 pub resolve_kind-returns-in-Repeat : goal.resolve_kind-returns-in-Repeat
 resolve_kind-returns-in-Repeat t c = repeated_told (sense_in c.args.globals.now c.args.args.now) c.args.span c.args.kind.now _ _ _ c.in-Repeat.is c.resolve_repeat.ensures
 
-pub resolve_kind-returns-in_ok-resolve_each-in-Expr : goal.resolve_kind-returns-in_ok-resolve_each-in-Expr
-resolve_kind-returns-in_ok-resolve_each-in-Expr t c =
-    group_told (sense_in c.args.globals.now c.args.args.now) c.args.span c.args.kind.now (Ok c.in_ok-resolve_each-in-Expr.field-0) _ _ c.resolve_each.new.symbols c.in-Expr.is c.deref_mut.ensures.value
-    (c.resolve_each.auto.symbols ∙ c.deref_mut.ensures.len) c.in_ok-resolve_each-in-Expr.ensures
+pub resolve_kind-returns-in-Expr : goal.resolve_kind-returns-in-Expr
+resolve_kind-returns-in-Expr t c =
+    group_told (sense_in c.args.globals.now c.args.args.now) c.args.span c.args.kind.now c.resolve_each.result _ _ c.resolve_each.new.symbols c.in-Expr.is c.deref_mut.ensures.value
+    (c.resolve_each.auto.symbols ∙ c.deref_mut.ensures.len) c.resolve_each.ensures
 
-pub resolve_kind-returns-in_err-resolve_each-in-Expr : goal.resolve_kind-returns-in_err-resolve_each-in-Expr
-resolve_kind-returns-in_err-resolve_each-in-Expr t c =
-    told_from _ _ _ _ _ c.from_residual.ensures c.in_err-resolve_each-in-Expr.ensures.refuses
-    (group_faults (sense_in c.args.globals.now c.args.args.now) c.args.span c.args.kind.now _ _ c.in-Expr.is c.deref_mut.ensures.value)
-
-pub resolve_kind-returns-in_ok-resolve_each-in-Macro : goal.resolve_kind-returns-in_ok-resolve_each-in-Macro
-resolve_kind-returns-in_ok-resolve_each-in-Macro t c =
+pub resolve_kind-returns-in_ok-check_call-in-Macro : goal.resolve_kind-returns-in_ok-check_call-in-Macro
+resolve_kind-returns-in_ok-check_call-in-Macro t c =
     let kept = roll-out-MacroSymbol c.in-Macro.call in
     let is = c.deref_mut-in-Macro.ensures.value ∙ ap (λ (m : MacroSymbol). (out-MacroSymbol m).args.items) kept in
     let alike : c.deref.result.now ≡ c.deref_mut-in-Macro.result.now = c.deref.ensures.value ∙ sym is in
     call_told (sense_in c.args.globals.now c.args.args.now) c.args.span c.args.kind.now c.in-Macro.call c.deref_mut-in-Macro.result.now c.in-Macro.is is
-    (Ok c.in_ok-resolve_each-in-Macro.field-0) _ c.resolve_each-in-Macro.new.symbols kept (c.resolve_each-in-Macro.auto.symbols ∙ c.deref_mut-in-Macro.ensures.len)
-    (rw (alike) at c.in_ok-check_call-in-Macro.ensures) c.in_ok-resolve_each-in-Macro.ensures
-
-pub resolve_kind-returns-in_err-resolve_each-in-Macro : goal.resolve_kind-returns-in_err-resolve_each-in-Macro
-resolve_kind-returns-in_err-resolve_each-in-Macro t c =
-    let is = c.deref_mut-in-Macro.ensures.value ∙ ap (λ (m : MacroSymbol). (out-MacroSymbol m).args.items) (roll-out-MacroSymbol c.in-Macro.call) in
-    let alike : c.deref.result.now ≡ c.deref_mut-in-Macro.result.now = c.deref.ensures.value ∙ sym is in
-    told_from _ _ _ _ _ c.from_residual-in_err-resolve_each-in-Macro.ensures c.in_err-resolve_each-in-Macro.ensures.refuses
-    (argument_faults (sense_in c.args.globals.now c.args.args.now) c.args.span c.args.kind.now c.in-Macro.call c.deref_mut-in-Macro.result.now c.in-Macro.is is (rw (alike) at c.in_ok-check_call-in-Macro.ensures))
+    c.resolve_each-in-Macro.result _ c.resolve_each-in-Macro.new.symbols kept (c.resolve_each-in-Macro.auto.symbols ∙ c.deref_mut-in-Macro.ensures.len)
+    (rw (alike) at c.in_ok-check_call-in-Macro.ensures) c.resolve_each-in-Macro.ensures
 
 pub resolve_kind-returns-in_err-check_call-in-Macro : goal.resolve_kind-returns-in_err-check_call-in-Macro
 resolve_kind-returns-in_err-check_call-in-Macro t c =
@@ -142,7 +134,7 @@ resolve_kind-returns-in_ok-kind-in-AmbiguousId t c =
 
 pub resolve_kind-returns-in_err-kind-in-AmbiguousId : goal.resolve_kind-returns-in_err-kind-in-AmbiguousId
 resolve_kind-returns-in_err-kind-in-AmbiguousId t c =
-    told_from _ _ _ _ _ c.from_residual-in_err-kind-in-AmbiguousId.ensures c.in_err-kind-in-AmbiguousId.ensures
+    told_from _ _ _ _ _ c.from_residual.ensures c.in_err-kind-in-AmbiguousId.ensures
     (ambiguous_faults (sense_in c.args.globals.now c.args.args.now) c.args.span c.args.kind.now c.in-AmbiguousId.id c.in-AmbiguousId.is)
 
 pub resolve_symbol-returns : goal.resolve_symbol-returns
