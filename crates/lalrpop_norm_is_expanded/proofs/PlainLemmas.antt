@@ -1,20 +1,24 @@
 -- Rules of the expanded grammar and their names, seen by the lists of symbols, types and names.
-use Rattle.std.proofs.Common.{◌≡◌, ◌∙◌, ℕ, Bool, true, ◌&&◌, not, List, [], ◌∷◌, Option, Some, None, map, bytes_eq, inl, inr, refl, sym, ap, ap₂}
+use Rattle.std.proofs.Common.{◌≡◌, ◌∙◌, ℕ, Bool, true, false, ◌&&◌, not, List, [], ◌∷◌, Option, Some, None, map, bytes_eq, inl, inr, refl, sym, ap, ap₂}
 use Rattle.std.specs.Prelude.{option_to_list}
 use Rattle.std.specs.List.{flat_map, list_all}
 use Rattle.std.proofs.Math.Bool.{and-true}
 use Rattle.std.proofs.lemmas.List.Folds.{list_all-append}
 use Rattle.std.proofs.lemmas.Slice.Eq.{bytes_eq-Decides}
 use Rattle.lalrpop_norm_tree.specs.Items.{RuleData, ItemData, match_item, extern_item, intern_item, rule_item, use_item}
-use Rattle.lalrpop_norm_tree.specs.Symbols.{Kind, Parts, terminal, nonterminal, error_terminal, no_parts, part_and}
+use Rattle.lalrpop_norm_tree_names.specs.declared.names.Span.{Span}
+use Rattle.lalrpop_norm_tree.specs.Accessors.{selected_of, binding_of, is_grammar_symbol}
+use Rattle.lalrpop_norm_tree.specs.declared.symbol.Symbol.{Symbol}
+use Rattle.lalrpop_norm_tree.specs.Symbols.{Kind, Part, Parts, ArgumentPattern, one_name, several, terminal, nonterminal, chosen, named, tupled, error_terminal, at, no_parts, part_and, kind_view, symbol_view}
+use Rattle.lalrpop_norm_tree.proofs.SymbolViews.{seen_at}
 use Rattle.lalrpop_norm_tree.specs.Types.{TypeData, TypesData, MaybeType, tuple, slice, nominal, reference, trait_object}
 use Rattle.lalrpop_norm_tree.specs.Types.{of_lifetime, id, of_symbol, function, no_types, type_and, no_type, returns}
 use Rattle.lalrpop_norm_theory.specs.Rounds.{In, IsDistinct}
 use Rattle.lalrpop_norm_theory.proofs.BoolLemmas.{both_true, not_true, true_not, both_hold, or_cases, or_left, or_right}
 use Rattle.lalrpop_norm_model.specs.PlainRules.{rule_of_item}
-use Rattle.lalrpop_norm_model.specs.Wrappers.{wrapped_kind, wrapped_part}
+use Rattle.lalrpop_norm_tree.specs.Traversal.{unwrapped, unwrapped_kind, wrapped_kind, wrapped_part}
 use Rattle.lalrpop_norm_model.specs.Expanded.{is_plain_terminal, is_plain_leaf, any_name, is_plain_kind, is_plain, are_plain, leaf_names, names_in_kind, names_in, names_in_parts, symbols_in, symbols_in_all, symbols_in_return}
-use Rattle.lalrpop_norm_is_expanded.specs.Plain.{is_rule_there, is_no_name_twice, is_usable_kind, are_usable, is_usable_in, are_usable_in, is_usable_return, is_usable_declared, is_usable_rule, is_usable_item}
+use Rattle.lalrpop_norm_is_expanded.specs.Plain.{is_rule_there, is_no_name_twice, is_usable_kind, is_usable, are_usable, is_usable_in, are_usable_in, is_usable_return, is_usable_declared, is_usable_rule, is_usable_item}
 use Rattle.lalrpop_norm_theory.proofs.ListTests.{all_flat, all_same, crossed}
 
 -- ---- names of rules
@@ -62,6 +66,43 @@ distinct_once (intern_item t ∷ items) d = distinct_once items d
 distinct_once (use_item s ∷ items) d = distinct_once items d
 
 -- ---- symbols
+
+-- what `Symbol::unwrapped` answers is the symbol under wrappers
+mutual
+  part_unwrapped : (p : Part) (s : Span) (k : Kind) → at s k ≡ unwrapped p → wrapped_part p ≡ k
+  part_unwrapped (at t j) s k e = kind_unwrapped t j s k e
+
+  kind_unwrapped : (t : Span) (j : Kind) (s : Span) (k : Kind) → at s k ≡ unwrapped_kind t j → wrapped_kind j ≡ k
+  kind_unwrapped t (chosen p) s k e = part_unwrapped p s k e
+  kind_unwrapped t (named n p) s k e = part_unwrapped p s k e
+  kind_unwrapped t (tupled ns p) s k e = part_unwrapped p s k e
+  kind_unwrapped t j s k e = cc e
+
+pub usable_unwrapped : (all : List ItemData) (x y : Symbol) → symbol_view y ≡ unwrapped (symbol_view x) →
+    is_plain_leaf (is_rule_there all) (kind_view y.kind) ≡ is_usable all (symbol_view x)
+usable_unwrapped all x y e =
+    sym (ap (is_plain_leaf (is_rule_there all)) (part_unwrapped (symbol_view x) y.span (kind_view y.kind) (sym (seen_at y) ∙ e)))
+
+pub usable_chosen : (all : List ItemData) (k : Kind) (p : Part) → Some p ≡ selected_of k → is_usable all p ≡ is_usable_kind all k
+usable_chosen all (chosen q) p e = let same : p ≡ q = cc e in ap (is_usable all) same
+usable_chosen all _ p e = absurd (cc e)
+
+pub usable_bound : (all : List ItemData) (k : Kind) (b : ArgumentPattern) (p : Part) → Some (b, p) ≡ binding_of k → is_usable all p ≡ is_usable_kind all k
+usable_bound all (named n q) b p e = let same : (b, p) ≡ (one_name n, q) = cc e in ap (λ (x : ArgumentPattern × Part). is_usable all x.1) same
+usable_bound all (tupled ns q) b p e = let same : (b, p) ≡ (several ns, q) = cc e in ap (λ (x : ArgumentPattern × Part). is_usable all x.1) same
+usable_bound all _ b p e = absurd (cc e)
+
+pub usable_bare : (all : List ItemData) (k : Kind) → None ≡ selected_of k → None ≡ binding_of k → is_plain_leaf (is_rule_there all) k ≡ is_usable_kind all k
+usable_bare all (chosen p) e f = absurd (cc e)
+usable_bare all (named n p) e f = absurd (cc f)
+usable_bare all (tupled ns p) e f = absurd (cc f)
+usable_bare all _ e f = refl
+
+pub no_leaf : (test : List ℕ → Bool) (k : Kind) → is_grammar_symbol k ≡ false → is_plain_leaf test k ≡ false
+no_leaf test (terminal t) e = absurd (cc e)
+no_leaf test (nonterminal n) e = absurd (cc e)
+no_leaf test error_terminal e = absurd (cc e)
+no_leaf test _ e = refl
 
 -- the test of names is of the names in it
 leaf_usable : (test : List ℕ → Bool) (k : Kind) → is_plain_leaf test k ≡ (is_plain_leaf any_name k && list_all test (leaf_names k))

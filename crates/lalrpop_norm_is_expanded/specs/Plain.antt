@@ -5,7 +5,7 @@ use Rattle.lalrpop_norm_tree.specs.Items.{AlternativeData, RuleData, ItemData, r
 use Rattle.lalrpop_norm_tree.specs.Symbols.{Kind, Part, Parts, no_parts, part_and}
 use Rattle.lalrpop_norm_tree.specs.Types.{TypeData, TypesData, MaybeType, tuple, slice, nominal, reference, trait_object}
 use Rattle.lalrpop_norm_tree.specs.Types.{of_lifetime, id, of_symbol, function, no_types, type_and, no_type, returns}
-use Rattle.lalrpop_norm_model.specs.Wrappers.{wrapped_kind, wrapped_part}
+use Rattle.lalrpop_norm_tree.specs.Traversal.{wrapped_kind, wrapped_part}
 use Rattle.lalrpop_norm_model.specs.Expanded.{is_plain_leaf}
 use Rattle.lalrpop_norm_model.specs.Grammars.{is_nil}
 

@@ -4,14 +4,16 @@ ghost use Rattle.std.specs.List.{list_all};
 ghost use Rattle.lalrpop_norm_tree.specs.Items.{alternative_view, item_view, rule_view};
 ghost use Rattle.lalrpop_norm_tree.specs.Symbols.{expr_view, kind_view, parts_view, symbol_view};
 ghost use Rattle.lalrpop_norm_tree.specs.Types.{maybe_of, type_view, types_view};
+ghost use Rattle.lalrpop_norm_model.specs.Expanded.{is_plain_leaf};
 ghost use Rattle.lalrpop_norm_is_expanded.specs.Plain.{is_rule_there, is_rule_named, is_named_again, is_no_name_twice};
 ghost use Rattle.lalrpop_norm_is_expanded.specs.Plain.{is_usable_kind, is_usable, are_usable, is_usable_in, are_usable_in};
 ghost use Rattle.lalrpop_norm_is_expanded.specs.Plain.{is_usable_return, is_usable_declared, is_usable_alternative};
 ghost use Rattle.lalrpop_norm_is_expanded.specs.Plain.{is_usable_rule, is_usable_item};
 
+use crate::tokens::is_plain_terminal;
 use lalrpop_norm_tree::grammar::parse_tree::{
-    Alternative, ExprSymbol, GrammarItem, NonterminalData, NonterminalString, Symbol, SymbolKind,
-    TerminalString, TypeRef,
+    Alternative, ExprSymbol, GrammarItem, GrammarSymbol, NonterminalData, NonterminalString,
+    Symbol, SymbolKind, TypeRef,
 };
 
 /// Whether each rule is plain, and what it names has a rule.
@@ -80,31 +82,37 @@ fn are_usable(items: &[GrammarItem], symbols: &[Symbol]) -> bool
     true
 }
 
-#[cycle(symbol)]
+/// A plain symbol, and what it names has a rule.
+#[tactic(auto, using(crate::proofs::PlainLemmas::usable_unwrapped))]
 fn is_usable(items: &[GrammarItem], symbol: &Symbol) -> bool
     ensures { result ≡ is_usable (map item_view items.now) (symbol_view symbol.now) }
 {
-    is_usable_kind(items, &symbol.kind)
+    is_usable_leaf(items, &symbol.unwrapped().kind)
 }
 
-/// A terminal other than the error terminal, a nonterminal that has a rule, or `!`, under wrappers.
-#[cycle(symbol)]
+/// The same of a symbol without its span.
 fn is_usable_kind(items: &[GrammarItem], kind: &SymbolKind) -> bool
     ensures { result ≡ is_usable_kind (map item_view items.now) (kind_view kind.now) }
 {
-    match kind {
-        SymbolKind::Terminal(TerminalString::Error) => false,
-        SymbolKind::Terminal(_) | SymbolKind::Error => true,
-        SymbolKind::Nonterminal(name) => is_rule_there(items, name),
-        SymbolKind::Choose(inner) => is_usable(items, inner),
-        SymbolKind::Name(_, inner) => is_usable(items, inner),
-        SymbolKind::Tuple(_, inner) => is_usable(items, inner),
-        SymbolKind::Expr(_)
-        | SymbolKind::AmbiguousId(_)
-        | SymbolKind::Macro(_)
-        | SymbolKind::Repeat(_)
-        | SymbolKind::Lookahead
-        | SymbolKind::Lookbehind => false,
+    if let Some(inner) = kind.as_selected() {
+        return is_usable(items, inner);
+    }
+    match kind.as_bound() {
+        Some((_, inner)) => is_usable(items, inner),
+        None => is_usable_leaf(items, kind),
+    }
+}
+
+/// A terminal other than the error terminal, a nonterminal that has a rule, or `!`.
+#[tactic(auto, using(crate::proofs::PlainLemmas::no_leaf))]
+fn is_usable_leaf(items: &[GrammarItem], kind: &SymbolKind) -> bool
+    ensures { result ≡ is_plain_leaf (is_rule_there (map item_view items.now)) (kind_view kind.now) }
+{
+    match kind.as_grammar_symbol() {
+        Some(GrammarSymbol::Terminal(terminal)) => is_plain_terminal(terminal),
+        Some(GrammarSymbol::Nonterminal(name)) => is_rule_there(items, name),
+        Some(GrammarSymbol::Error) => true,
+        None => false,
     }
 }
 

@@ -18,81 +18,42 @@ use lalrpop_norm_tree::grammar::parse_tree::{
 pub(crate) fn are_sources_apart(items: &[GrammarItem]) -> bool
     ensures { result ≡ true ↔ AreSourcesApart (map item_view items.now) }
 {
-    let enums = count_enums(items);
-    let blocks = count_match_blocks(items);
-    let interns = count_interns(items);
+    let (enums, blocks, interns) = count_sources(items);
     enums <= 1 && blocks <= 1 && interns <= 1 && (enums == 0 || (blocks == 0 && interns == 0))
 }
 
-fn count_enums(items: &[GrammarItem]) -> usize
-    ensures { result ≡ length (flat_map enum_in (map item_view items.now)) }
+/// How many extern enums, match blocks and tokenizers there are.
+fn count_sources(items: &[GrammarItem]) -> (usize, usize, usize)
+    ensures enums { result.0 ≡ length (flat_map enum_in (map item_view items.now)) }
+    ensures blocks { result.1 ≡ length (flat_map match_in (map item_view items.now)) }
+    ensures interns { result.2 ≡ length (flat_map intern_in (map item_view items.now)) }
 {
-    let mut count = 0;
+    let mut enums = 0;
+    let mut blocks = 0;
+    let mut interns = 0;
     for item in items {
-        count += enums_in(item);
+        let sources = sources_in(item);
+        enums += sources.0;
+        blocks += sources.1;
+        interns += sources.2;
     }
-    count
+    (enums, blocks, interns)
 }
 
-fn enums_in(item: &GrammarItem) -> usize
-    ensures counted { result ≡ length (enum_in (item_view item.now)) }
-    ensures one { result ≤ 1 }
+fn sources_in(item: &GrammarItem) -> (usize, usize, usize)
+    ensures enums { result.0 ≡ length (enum_in (item_view item.now)) }
+    ensures blocks { result.1 ≡ length (match_in (item_view item.now)) }
+    ensures interns { result.2 ≡ length (intern_in (item_view item.now)) }
+    ensures one { (result.0 ≤ 1) × (result.1 ≤ 1) × (result.2 ≤ 1) }
 {
     match item {
         GrammarItem::ExternToken(block) => match &block.enum_token {
-            Some(_) => 1,
-            None => 0,
+            Some(_) => (1, 0, 0),
+            None => (0, 0, 0),
         },
-        GrammarItem::MatchToken(_)
-        | GrammarItem::InternToken(_)
-        | GrammarItem::Nonterminal(_)
-        | GrammarItem::Use(_) => 0,
-    }
-}
-
-fn count_match_blocks(items: &[GrammarItem]) -> usize
-    ensures { result ≡ length (flat_map match_in (map item_view items.now)) }
-{
-    let mut count = 0;
-    for item in items {
-        count += match_blocks_in(item);
-    }
-    count
-}
-
-fn match_blocks_in(item: &GrammarItem) -> usize
-    ensures counted { result ≡ length (match_in (item_view item.now)) }
-    ensures one { result ≤ 1 }
-{
-    match item {
-        GrammarItem::MatchToken(_) => 1,
-        GrammarItem::ExternToken(_)
-        | GrammarItem::InternToken(_)
-        | GrammarItem::Nonterminal(_)
-        | GrammarItem::Use(_) => 0,
-    }
-}
-
-fn count_interns(items: &[GrammarItem]) -> usize
-    ensures { result ≡ length (flat_map intern_in (map item_view items.now)) }
-{
-    let mut count = 0;
-    for item in items {
-        count += interns_in(item);
-    }
-    count
-}
-
-fn interns_in(item: &GrammarItem) -> usize
-    ensures counted { result ≡ length (intern_in (item_view item.now)) }
-    ensures one { result ≤ 1 }
-{
-    match item {
-        GrammarItem::InternToken(_) => 1,
-        GrammarItem::MatchToken(_)
-        | GrammarItem::ExternToken(_)
-        | GrammarItem::Nonterminal(_)
-        | GrammarItem::Use(_) => 0,
+        GrammarItem::MatchToken(_) => (0, 1, 0),
+        GrammarItem::InternToken(_) => (0, 0, 1),
+        GrammarItem::Nonterminal(_) | GrammarItem::Use(_) => (0, 0, 0),
     }
 }
 
@@ -193,7 +154,7 @@ fn mapping_spares_error(mapping: &MatchMapping) -> bool
 }
 
 /// Whether it is another terminal than the error terminal.
-fn is_plain_terminal(terminal: &TerminalString) -> bool
+pub(crate) fn is_plain_terminal(terminal: &TerminalString) -> bool
     ensures { result ≡ is_plain_terminal terminal.now }
 {
     match terminal {

@@ -4,10 +4,10 @@ use Rattle.std.proofs.lemmas.List.{take-map, drop-map, map-append, length-append
 use borrow.Rule.Slice.PartMut.{put_mid, mid_of, post_of}
 use Rattle.lalrpop_norm_tree.specs.declared.items.GrammarItem.{GrammarItem}
 use Rattle.lalrpop_norm_tree.specs.Items.{item_view}
-use Rattle.lalrpop_norm_macro_expand_rules.specs.Pending.{PendingData, FillingData, item_of, filling_of, pending_read, filled_items}
+use Rattle.lalrpop_norm_macro_expand_rules.specs.Generated.{GeneratedData, FillingData, item_of, filling_of, generated_read, filled_items}
 use Rattle.lalrpop_norm_macro_expand.proofs.WaitingLists.{side_by_side}
 
-module _ (old all : List GrammarItem) (first : ℕ) (ps : List PendingData) (before : first ≡ length old) (rules : map item_view all ≡ map item_view old ++ map item_of ps) where
+module _ (old all : List GrammarItem) (first : ℕ) (ps : List GeneratedData) (before : first ≡ length old) (rules : map item_view all ≡ map item_view old ++ map item_of ps) where
   inside : first ≤ length all
   inside =
       omega (arith, before, ap length rules, length-map all item_view, length-map old item_view, length-append (map item_view old) (map item_of ps))
@@ -37,7 +37,7 @@ module _ (old all : List GrammarItem) (first : ℕ) (ps : List PendingData) (bef
         ap length put_last
         ∙ omega (arith, inside, length-append (take first all) new, length-take-le first all inside, same, ap length last, length-drop first all)
 
-    pub read_behind : map item_view new ≡ map pending_read ps → map item_view (put_mid first (length all - first) all new) ≡ map item_view old ++ map pending_read ps
+    pub read_behind : map item_view new ≡ map generated_read ps → map item_view (put_mid first (length all - first) all new) ≡ map item_view old ++ map generated_read ps
     read_behind read =
         ap (map item_view) put_last ∙ map-append item_view (take first all) new
         ∙ ap (λ is. is ++ map item_view new) (sym (take-map item_view first all) ∙ ap (take first) rules ∙ take_at (map item_view old) (map item_of ps) first start)

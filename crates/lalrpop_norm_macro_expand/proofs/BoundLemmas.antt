@@ -20,11 +20,11 @@ use Rattle.lalrpop_norm_nodes.specs.Wholes.{Whole, one_symbol, kind_at, as_kind}
 use Rattle.lalrpop_norm_nodes.proofs.TwiceLemmas.{text_replaced}
 use Rattle.lalrpop_norm_nodes.proofs.MeetLemmas.{text_unplaced}
 use Rattle.lalrpop_norm_nodes.proofs.RowItems.{is_kind}
-use Rattle.lalrpop_norm_macro_expand_rules.specs.Pending.{unread_rule}
+use Rattle.lalrpop_norm_macro_expand_rules.specs.Generated.{unread_rule}
 use Rattle.lalrpop_norm_macro_expand_rules.proofs.ArgumentLemmas.{given_for, whole_of, shown_of}
 use Rattle.lalrpop_norm_macro_expand_rules.proofs.StayLemmas.{part_stays, kind_stays}
-use Rattle.lalrpop_norm_macro_expand_repeats.specs.Repeats.{hole_name, repeat_shape}
-use Rattle.lalrpop_norm_macro_expand.specs.Making.{hole, repeat_pending}
+use Rattle.lalrpop_norm_macro_expand_repeats.specs.Repeats.{placeholder_name, repeat_shape}
+use Rattle.lalrpop_norm_macro_expand.specs.Making.{placeholder_names, repeat_generated}
 
 -- ---- a symbol with its parts rewritten determines what it is
 
@@ -150,24 +150,24 @@ call_is ws r s names given ps ss e at_numbers symbols =
     ∙ ap₂ (unread_rule s) (whole_is ws names given ps at_numbers) (shown_is names given ss symbols)
 
 pub repeat_is : (ws : List Whole) (name : List ℕ) (s : Span) (op : RepeatOp) (whole : Kind) (x : Symbol) (r : RuleData) (g : Given) → g.symbol ≡ x →
-    slice_get ws g.number ≡ Some (one_symbol whole) → r ≡ repeat_shape name s op (symbol_view x) (at x.span (nonterminal hole_name)) →
-    unread_rule r (whole_of ws hole (g ∷ [])) (shown_of hole (g ∷ [])) ≡ repeat_pending name s op whole (symbol_view x)
+    slice_get ws g.number ≡ Some (one_symbol whole) → r ≡ repeat_shape name s op (symbol_view x) (at x.span (nonterminal placeholder_name)) →
+    unread_rule r (whole_of ws placeholder_names (g ∷ [])) (shown_of placeholder_names (g ∷ [])) ≡ repeat_generated name s op whole (symbol_view x)
 repeat_is ws name s op whole x r g e h is =
-    call_is ws r (repeat_shape name s op (symbol_view x) (at x.span (nonterminal hole_name))) hole (g ∷ []) (only_part (at nowhere whole)) (x ∷ []) is
+    call_is ws r (repeat_shape name s op (symbol_view x) (at x.span (nonterminal placeholder_name))) placeholder_names (g ∷ []) (only_part (at nowhere whole)) (x ∷ []) is
     (ap (λ (o : Option Whole). o ∷ []) h) (ap (λ (y : Symbol). y ∷ []) e)
-    ∙ ap (λ (p : Part). unread_rule (repeat_shape name s op p (at x.span (nonterminal hole_name))) (argument_kind hole (only_part (at nowhere whole))) (argument_kind hole (only_part p))) (seen_at x)
-    ∙ ap (repeat_pending name s op whole) (sym (seen_at x))
+    ∙ ap (λ (p : Part). unread_rule (repeat_shape name s op p (at x.span (nonterminal placeholder_name))) (argument_kind placeholder_names (only_part (at nowhere whole))) (argument_kind placeholder_names (only_part p))) (seen_at x)
+    ∙ ap (repeat_generated name s op whole) (sym (seen_at x))
 
 pub inner_stays : (op : RepeatOp) (p : Part) → inside_replaced (repeated op p) ≡ repeated op p → replaced p ≡ p
 inner_stays op p e = cc e
 
 pub repeat_readable : (ws : List Whole) (op : RepeatOp) (k : Kind) (x : Symbol) (g : Given) → g.symbol ≡ x → slice_get ws g.number ≡ Some (one_symbol (repeated_kind k)) →
-    inside_replaced (repeated op (symbol_view x)) ≡ repeated op (symbol_view x) → IsRepeat k (symbol_view x) → (n : List ℕ) (h : Given) → given_for hole (g ∷ []) n ≡ Some h → IsGiven ws h
+    inside_replaced (repeated op (symbol_view x)) ≡ repeated op (symbol_view x) → IsRepeat k (symbol_view x) → (n : List ℕ) (h : Given) → given_for placeholder_names (g ∷ []) n ≡ Some h → IsGiven ws h
 repeat_readable ws op k x g e here stays is n h f =
     let view : kind_of (symbol_view x) ≡ kind_view g.symbol.kind = ap kind_of (seen_at x) ∙ ap (λ (y : Symbol). kind_view y.kind) (sym e) in
     let one : IsGiven ws g = is_given ws g (repeated_kind k) here (subst (λ (j : Kind). replaced_kind j ≡ j) view (part_stays (symbol_view x) (inner_stays op (symbol_view x) stays)))
     (ap unplaced_kind (sym view) ∙ is.same) in
-    by (bytes_eq hole_name n) f one
+    by (bytes_eq placeholder_name n) f one
   where
     by : (b : Bool) → cond b (Some g) None ≡ Some h → IsGiven ws g → IsGiven ws h
     by true f one = let same : g ≡ h = cc f in subst (IsGiven ws) same one

@@ -3,10 +3,10 @@ mod BoundLemmas
 pub mod DistinctLemmas
 mod ExitLemmas
 mod FreshLemmas
+mod GeneratedLemmas
 mod LoopLemmas
 mod MadeLemmas
 mod MakingLemmas
-mod TracedLemmas
-mod PendingLemmas
 mod RoundLemmas
+mod TracedLemmas
 mod WaitingLists

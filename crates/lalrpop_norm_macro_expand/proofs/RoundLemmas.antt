@@ -35,13 +35,13 @@ use Rattle.lalrpop_norm_nodes.proofs.ShallowRounds.{round_refused, round_seen, r
 use Rattle.lalrpop_norm_nodes.proofs.WaitStands.{with_number, with_whole, waiting_are}
 use Rattle.lalrpop_norm_macro_expand_rules.specs.Names.{is_declared_name}
 use Rattle.lalrpop_norm_macro_expand_rules.specs.Items.{replaced_item, met_in_item, shown_in_item, without_macro, macro_in}
-use Rattle.lalrpop_norm_macro_expand_rules.specs.Pending.{PendingData, met_in_pending, shown_in_pending, pending_read}
+use Rattle.lalrpop_norm_macro_expand_rules.specs.Generated.{GeneratedData, met_in_generated, shown_in_generated, generated_read}
 use Rattle.lalrpop_norm_macro_expand.specs.Expansion.{shared_names, meetings, met_before, shared_in, unmade, unmade_in, past_cap, faults_from, expansion_faults}
 use Rattle.lalrpop_norm_macro_expand.specs.Kept.{kept_by}
-use Rattle.lalrpop_norm_macro_expand.specs.Making.{pending_of, pending_for}
+use Rattle.lalrpop_norm_macro_expand.specs.Making.{generated_of, generated_for}
 use Rattle.lalrpop_norm_macro_expand.proofs.FreshLemmas.{Tells, after_fresh, first_same, quiet_same, tells_after}
 use Rattle.lalrpop_norm_macro_expand.proofs.MadeLemmas.{NewOnes, kept_replaced}
-use Rattle.lalrpop_norm_macro_expand.proofs.PendingLemmas.{pending_by, pending_are_read, rules_read, all_unmade}
+use Rattle.lalrpop_norm_macro_expand.proofs.GeneratedLemmas.{generated_by, generated_are_read, rules_read, all_unmade}
 
 abbrev replaced_rules : List RuleData → List ItemData
 replaced_rules rs = map (λ r. rule_item (replaced_rule r)) rs
@@ -248,19 +248,19 @@ module _ (g : GrammarData) where
   -- ---- from one round to the next
 
   -- the rules that the symbols on the worklist are desugared to
-  abbrev pub next_pending : ℕ → List PendingData
-  next_pending k = flat_map (pending_by (macros_of g)) (reverse (round k).fresh)
+  abbrev pub next_generated : ℕ → List GeneratedData
+  next_generated k = flat_map (generated_by (macros_of g)) (reverse (round k).fresh)
 
   pub next_alike : (limit left k : ℕ) (seen waiting : List Part) (done : List ItemData) → AtRound limit left k seen waiting done →
-      MeetAlike declared (round (suc k)).seen (flat_map shown_in_pending (next_pending k)) (flat_map met_in_pending (next_pending k)) (meetings comparison g (suc k))
+      MeetAlike declared (round (suc k)).seen (flat_map shown_in_generated (next_generated k)) (flat_map met_in_generated (next_generated k)) (meetings comparison g (suc k))
   next_alike limit left k seen waiting done h =
       rules_read declared (round (suc k)).seen (macros_of g) (reverse (round k).fresh) (λ p i. h.inside_met p (of_reverse p (round k).fresh i))
 
   pub next_items : (limit left k : ℕ) (seen waiting : List Part) (done later : List ItemData) → AtRound limit left k seen waiting done →
-      later ≡ done ++ map pending_read (next_pending k) → later ≡ (plain_grammar comparison g (suc k)).items
+      later ≡ done ++ map generated_read (next_generated k) → later ≡ (plain_grammar comparison g (suc k)).items
   next_items limit left k seen waiting done later h e =
       let new_rules : List RuleData = flat_map make (reverse (round k).fresh) in
-      e ∙ ap₂ ◌++◌ h.items (pending_are_read (macros_of g) (reverse (round k).fresh))
+      e ∙ ap₂ ◌++◌ h.items (generated_are_read (macros_of g) (reverse (round k).fresh))
       ∙ append_assoc (flat_map plain_item g.items) (replaced_rules (made_in comparison g k)) (replaced_rules new_rules)
       ∙ ap (λ rs. flat_map plain_item g.items ++ rs)
       (sym (map-append (λ r. rule_item (replaced_rule r)) (made_in comparison g k) new_rules)
@@ -269,7 +269,7 @@ module _ (g : GrammarData) where
   -- what is on the worklist, by its ids
   pub record IsMaking (t : Table) (k : ℕ) (xs : List Waiting) : Type 0 where
     pub waiting : AreWaiting (wholes_in t) xs
-    pub pending : flat_map (pending_for (wholes_in t) (macros_of g)) (reverse xs) ≡ next_pending k
+    pub generated : flat_map (generated_for (wholes_in t) (macros_of g)) (reverse xs) ≡ next_generated k
     pub unmade : flat_map (λ w. unmade (macros_of g) (symbol_view w.symbol)) (reverse xs) ≡ unmade_in comparison g k
     pub new : NewOnes g (wholes_in t) k xs
 
@@ -295,7 +295,7 @@ module _ (g : GrammarData) where
       let are = waiting_are t table (round (suc k)).seen (same ∙ h.before.kept) xs (round k).fresh h.waits numbered h.first_ones in
       let number = with_number t table (round (suc k)).seen (same ∙ h.before.kept) in
       let whole = with_whole t table (round (suc k)).seen (same ∙ h.before.kept) in
-      let make_of : Kind × Part → List PendingData = λ x. pending_of (macros_of g) x.0 x.1 in
+      let make_of : Kind × Part → List GeneratedData = λ x. generated_of (macros_of g) x.0 x.1 in
       let view : Waiting → Part = λ w. symbol_view w.symbol in
       let backwards : map number (reverse xs) ≡ map whole (reverse (round k).fresh) = map_reverse number xs ∙ ap reverse are.1 ∙ sym (map_reverse whole (round k).fresh) in
       let part_of : Kind × Part → Part = λ x. at nowhere x.0 in
@@ -311,7 +311,7 @@ module _ (g : GrammarData) where
               listed number places_of (reverse xs) ∙ ap (map places_of) backwards
               ∙ sym (listed whole places_of (reverse (round k).fresh)) ∙ all_kept (reverse (round k).fresh);
         };
-        pending =
+        generated =
             mapped number make_of (reverse xs)
             ∙ ap (flat_map make_of) backwards
             ∙ sym (mapped whole make_of (reverse (round k).fresh));
@@ -352,8 +352,8 @@ module _ (g : GrammarData) where
   -- the others: those on the worklist are desugared, which are read
   module _ (limit left less k : ℕ) (a b : Table) (old : List Part) (xs : List Waiting) (done : List ItemData) (more : left ≡ suc less)
       (h : AtRound limit left k old (map (λ w. symbol_view w.symbol) xs) done) (making : IsMaking a k xs) (names : is_declared_in a ≡ declared) (seen : seen_in a ≡ old) where
-    abbrev made : List PendingData
-    made = flat_map (pending_for (wholes_in a) (macros_of g)) (reverse xs)
+    abbrev made : List GeneratedData
+    made = flat_map (generated_for (wholes_in a) (macros_of g)) (reverse xs)
 
     abbrev unmade_here : List Fault
     unmade_here = flat_map (λ w. unmade (macros_of g) (symbol_view w.symbol)) (reverse xs)
@@ -361,8 +361,8 @@ module _ (g : GrammarData) where
     before_here : Before (suc k) (seen_in a)
     before_here = subst (Before (suc k)) (sym seen) h.before
 
-    alike_here : MeetAlike declared (round (suc k)).seen (flat_map shown_in_pending made) (flat_map met_in_pending made) (meetings comparison g (suc k))
-    alike_here = rw making.pending (next_alike limit left k old (map (λ w. symbol_view w.symbol) xs) done h)
+    alike_here : MeetAlike declared (round (suc k)).seen (flat_map shown_in_generated made) (flat_map met_in_generated made) (meetings comparison g (suc k))
+    alike_here = rw making.generated (next_alike limit left k old (map (λ w. symbol_view w.symbol) xs) done h)
 
     faults_left : expansion_faults comparison g limit ≡ unmade_here ++ faults_from comparison g (suc k) less
     faults_left = h.rest ∙ ap (faults_after g k) more ∙ ap (λ fs. fs ++ faults_from comparison g (suc k) less) (sym making.unmade)
@@ -372,24 +372,24 @@ module _ (g : GrammarData) where
     first_joined (u ∷ us) vs ws f i later = i
 
     -- F33, F34, F35, and F37 of the next round
-    pub round_refused_so : (f : NormFailure) → IsFirst (unmade_here ++ refused_in a (flat_map met_in_pending made)) f → IsFirst (expansion_faults comparison g limit) f
+    pub round_refused_so : (f : NormFailure) → IsFirst (unmade_here ++ refused_in a (flat_map met_in_generated made)) f → IsFirst (expansion_faults comparison g limit) f
     round_refused_so f i =
         subst (λ (fs : List Fault). IsFirst fs f) (sym faults_left)
-        (first_joined unmade_here (refused_in a (flat_map met_in_pending made)) (faults_from comparison g (suc k) less) f i
-        (shared_first (suc k) a (flat_map shown_in_pending made) (flat_map met_in_pending made) names before_here alike_here less f))
+        (first_joined unmade_here (refused_in a (flat_map met_in_generated made)) (faults_from comparison g (suc k) less) f i
+        (shared_first (suc k) a (flat_map shown_in_generated made) (flat_map met_in_generated made) names before_here alike_here less f))
 
     both_none : (us vs : List Fault) → us ++ vs ≡ [] → (us ≡ []) × (vs ≡ [])
     both_none [] vs e = (refl, e)
     both_none (u ∷ us) vs e = absurd (cc e)
 
-    pub round_next : (later : List ItemData) → waiting_in a ≡ [] → (map (λ w. symbol_view w.symbol) xs ≡ [] → ⊥) → TableMeets a b (flat_map met_in_pending made) →
-        unmade_here ++ refused_in a (flat_map met_in_pending made) ≡ [] → LeavesWaiting a b (flat_map shown_in_pending made) → later ≡ done ++ map pending_read made →
+    pub round_next : (later : List ItemData) → waiting_in a ≡ [] → (map (λ w. symbol_view w.symbol) xs ≡ [] → ⊥) → TableMeets a b (flat_map met_in_generated made) →
+        unmade_here ++ refused_in a (flat_map met_in_generated made) ≡ [] → LeavesWaiting a b (flat_map shown_in_generated made) → later ≡ done ++ map generated_read made →
         AtRound limit less (suc k) (seen_in b) (waiting_in b) later
     round_next later none some m quiet l moved =
-        let quiets = both_none unmade_here (refused_in a (flat_map met_in_pending made)) quiet in
-        at_round (suc k) a (flat_map shown_in_pending made) (flat_map met_in_pending made) names before_here alike_here b m quiets.1 limit less later none l
+        let quiets = both_none unmade_here (refused_in a (flat_map met_in_generated made)) quiet in
+        at_round (suc k) a (flat_map shown_in_generated made) (flat_map met_in_generated made) names before_here alike_here b m quiets.1 limit less later none l
         (faults_left ∙ ap (λ fs. fs ++ faults_from comparison g (suc k) less) quiets.0)
-        (next_items limit left k old (map (λ w. symbol_view w.symbol) xs) done later h (moved ∙ ap (λ qs. done ++ map pending_read qs) making.pending))
+        (next_items limit left k old (map (λ w. symbol_view w.symbol) xs) done later h (moved ∙ ap (λ qs. done ++ map generated_read qs) making.generated))
         (earlier_next limit left k old (map (λ w. symbol_view w.symbol) xs) done h some)
 
   -- the symbols that waited, once they are taken out of the table

@@ -17,10 +17,10 @@ use Rattle.lalrpop_norm_nodes.specs.Apart.{nowhere}
 use Rattle.lalrpop_norm_nodes.specs.declared.table.Waiting.{Waiting}
 use Rattle.lalrpop_norm_nodes.specs.NodeParts.{call_parts, repeated_kind}
 use Rattle.lalrpop_norm_nodes.specs.Wholes.{Whole, kind_at}
-use Rattle.lalrpop_norm_macro_expand_rules.specs.declared.pending.Pending.{Pending}
+use Rattle.lalrpop_norm_macro_expand_rules.specs.declared.generated.GeneratedRule.{GeneratedRule}
 use Rattle.lalrpop_norm_macro_expand_rules.specs.declared.substituted.Bindings.{Bindings}
-use Rattle.lalrpop_norm_macro_expand_rules.specs.Pending.{PendingData, finished_rule, unread_rule, pending_view}
-use Rattle.lalrpop_norm_macro_expand_repeats.specs.Repeats.{hole_name, repeat_shape}
+use Rattle.lalrpop_norm_macro_expand_rules.specs.Generated.{GeneratedData, finished_rule, unread_rule, generated_view}
+use Rattle.lalrpop_norm_macro_expand_repeats.specs.Repeats.{placeholder_name, repeat_shape}
 use Rattle.lalrpop_norm_macro_expand.specs.Expansion.{unmade}
 use Rattle.lalrpop_norm_macro_expand.specs.Made.{made_for}
 
@@ -52,45 +52,46 @@ instance_shape name s d args = record {
 }
 
 -- where the arguments are the second ones once they are rewritten
-abbrev pub call_pending : List ℕ → Span → Option RuleData → Parts → Parts → List PendingData
-call_pending name s None whole shown = []
-call_pending name s (Some d) whole shown =
+abbrev pub call_generated : List ℕ → Span → Option RuleData → Parts → Parts → List GeneratedData
+call_generated name s None whole shown = []
+call_generated name s (Some d) whole shown =
     unread_rule (instance_shape name s d shown) (argument_kind d.args whole) (argument_kind d.args shown) ∷ []
 
 -- ---- repeats
 
 -- the names in the environment: the one that stands for what is repeated
-abbrev pub hole : List NonterminalString
-hole = (record { 0 = hole_name }) ∷ []
+abbrev pub placeholder_names : List NonterminalString
+placeholder_names = (record { 0 = placeholder_name }) ∷ []
 
-abbrev pub repeat_pending : List ℕ → Span → RepeatOp → Kind → Part → PendingData
-repeat_pending name s op whole (at t k) =
-    unread_rule (repeat_shape name s op (at t k) (at t (nonterminal hole_name))) (argument_kind hole (only_part (at nowhere whole)))
-    (argument_kind hole (only_part (at t k)))
+abbrev pub repeat_generated : List ℕ → Span → RepeatOp → Kind → Part → GeneratedData
+repeat_generated name s op whole (at t k) =
+    unread_rule (repeat_shape name s op (at t k) (at t (nonterminal placeholder_name)))
+    (argument_kind placeholder_names (only_part (at nowhere whole)))
+    (argument_kind placeholder_names (only_part (at t k)))
 
 -- ---- symbols on the worklist
 
 -- The rules that a symbol is desugared to, where it is the first symbol up to spans, and the second one once its parts are
 -- rewritten. In the rule of a group they are rewritten: each of them was reached before the group was.
-abbrev pub pending_of : List RuleData → Kind → Part → List PendingData
-pending_of macros whole (at s (group ps)) = finished_rule (group_rule s ps) ∷ []
-pending_of macros whole (at s (call n ps)) = call_pending (kind_text (call n ps)) s (macro_named macros n) (call_parts whole) ps
-pending_of macros whole (at s (repeated op p)) = repeat_pending (kind_text (repeated op p)) s op (repeated_kind whole) p ∷ []
-pending_of macros whole (at s lookahead) = finished_rule (location_rule s lookahead lookahead_code) ∷ []
-pending_of macros whole (at s lookbehind) = finished_rule (location_rule s lookbehind lookbehind_code) ∷ []
-pending_of macros whole (at s _) = []
+abbrev pub generated_of : List RuleData → Kind → Part → List GeneratedData
+generated_of macros whole (at s (group ps)) = finished_rule (group_rule s ps) ∷ []
+generated_of macros whole (at s (call n ps)) = call_generated (kind_text (call n ps)) s (macro_named macros n) (call_parts whole) ps
+generated_of macros whole (at s (repeated op p)) = repeat_generated (kind_text (repeated op p)) s op (repeated_kind whole) p ∷ []
+generated_of macros whole (at s lookahead) = finished_rule (location_rule s lookahead lookahead_code) ∷ []
+generated_of macros whole (at s lookbehind) = finished_rule (location_rule s lookbehind lookbehind_code) ∷ []
+generated_of macros whole (at s _) = []
 
-abbrev pub pending_for : List Whole → List RuleData → Waiting → List PendingData
-pending_for ws macros w = pending_of macros (kind_at ws w.number) (symbol_view w.symbol)
+abbrev pub generated_for : List Whole → List RuleData → Waiting → List GeneratedData
+generated_for ws macros w = generated_of macros (kind_at ws w.number) (symbol_view w.symbol)
 
 -- a rule, if there is one
-abbrev pub pending_list : List Whole → Option Pending → List PendingData
-pending_list ws p = option_to_list (option_map (pending_view ws) p)
+abbrev pub generated_list : List Whole → Option GeneratedRule → List GeneratedData
+generated_list ws p = option_to_list (option_map (generated_view ws) p)
 
 -- ---- all symbols on the worklist: the rule of the one reached last is generated first
 
-abbrev pub round_pending : List Whole → List RuleData → List Waiting → List PendingData
-round_pending ws macros waiting = flat_map (pending_for ws macros) (reverse waiting)
+abbrev pub round_generated : List Whole → List RuleData → List Waiting → List GeneratedData
+round_generated ws macros waiting = flat_map (generated_for ws macros) (reverse waiting)
 
 abbrev pub round_unmade : List RuleData → List Waiting → List Fault
 round_unmade macros waiting = flat_map (λ w. unmade macros (symbol_view w.symbol)) (reverse waiting)

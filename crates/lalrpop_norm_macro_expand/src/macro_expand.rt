@@ -15,24 +15,26 @@ ghost use Rattle.lalrpop_norm_nodes.specs.NodeParts.{AreWaiting};
 ghost use Rattle.lalrpop_norm_nodes.specs.Tables.{wholes_in, seen_in, IsNodeTable, IsCounted, TableMeets, refused_in};
 ghost use Rattle.lalrpop_norm_nodes.specs.Waits.{LeavesWaiting};
 ghost use Rattle.lalrpop_norm_macro_expand_rules.specs.Macros.{macros_in, AreByName};
-ghost use Rattle.lalrpop_norm_macro_expand_rules.specs.Pending.{met_in_pending, shown_in_pending, pending_read};
+ghost use Rattle.lalrpop_norm_macro_expand_rules.specs.Generated.{met_in_generated, shown_in_generated, generated_read};
 ghost use Rattle.lalrpop_norm_macro_expand.specs.Counts.{AreCounts, IsLastRound};
 ghost use Rattle.lalrpop_norm_macro_expand.specs.Expansion.{past_cap, expansion_faults, macro_faults};
 ghost use Rattle.lalrpop_norm_macro_expand.specs.Made.{made_view, AreMade};
-ghost use Rattle.lalrpop_norm_macro_expand.specs.Making.{hole, round_pending, round_unmade, round_made};
+ghost use Rattle.lalrpop_norm_macro_expand.specs.Making.{placeholder_names, round_generated, round_unmade, round_made};
 
 mod instance;
 mod made_origins;
 mod make;
+mod repeats;
 mod rule_lists;
 pub(crate) mod traced;
 
-use self::make::{MadeSymbol, Makers, make_rules, numbers_of_hole};
+use self::make::{MadeSymbol, Makers, make_rules};
+use self::repeats::numbers_of_placeholder;
 use lalrpop_norm_faults::{FaultKind, NormFailure, NormResult, refusal};
+use lalrpop_norm_macro_expand_rules::generated::read_generated;
 use lalrpop_norm_macro_expand_rules::items::read_items;
 use lalrpop_norm_macro_expand_rules::macros::without_macros;
 use lalrpop_norm_macro_expand_rules::names::declared_names;
-use lalrpop_norm_macro_expand_rules::pending::read_pending;
 use lalrpop_norm_macro_expand_rules::shortened::shortened_symbol;
 use lalrpop_norm_nodes::digest::seeded_by;
 use lalrpop_norm_nodes::table::{Table, Waiting};
@@ -113,20 +115,20 @@ fn read_round(
     table: &mut Table,
 ) -> NormResult<()>
     requires macros { AreByName makers.now.macros }
-    requires hole { IsNumbering (map (λ n. n.0) hole) makers.now.hole }
+    requires placeholder { IsNumbering (map (λ n. n.0) placeholder_names) makers.now.placeholder }
     requires table { IsNodeTable table.old }
     requires counted { IsCounted table.old }
     requires waiting { AreWaiting (wholes_in table.old) waiting.items }
     ensures refuses { Refuses result (round_unmade (macros_in makers.now.macros) waiting.items
         ++ refused_in table.old
-        (flat_map met_in_pending (round_pending (wholes_in table.old) (macros_in makers.now.macros) waiting.items))) }
+        (flat_map met_in_generated (round_generated (wholes_in table.old) (macros_in makers.now.macros) waiting.items))) }
     ensures meets { OnOk result (TableMeets table.old table.new
-        (flat_map met_in_pending (round_pending (wholes_in table.old) (macros_in makers.now.macros) waiting.items))) }
+        (flat_map met_in_generated (round_generated (wholes_in table.old) (macros_in makers.now.macros) waiting.items))) }
     ensures counted { OnOk result (IsCounted table.new) }
     ensures waits { OnOk result (LeavesWaiting table.old table.new
-        (flat_map shown_in_pending (round_pending (wholes_in table.old) (macros_in makers.now.macros) waiting.items))) }
+        (flat_map shown_in_generated (round_generated (wholes_in table.old) (macros_in makers.now.macros) waiting.items))) }
     ensures value { OnOk result (map item_view done.new.items ≡ map item_view done.old.items
-        ++ map pending_read (round_pending (wholes_in table.old) (macros_in makers.now.macros) waiting.items)) }
+        ++ map generated_read (round_generated (wholes_in table.old) (macros_in makers.now.macros) waiting.items)) }
     ensures made { OnOk result (map made_view made.new.items
         ≡ map made_view made.old.items ++ round_made (macros_in makers.now.macros) waiting.items) }
 {
@@ -134,7 +136,7 @@ fn read_round(
     make_room(done, waiting.len())?;
     let fillings = make_rules(alloc, makers, table, waiting, made, done)?;
     let mut room = 0usize;
-    read_pending(alloc, &mut done[first..], fillings, table, &mut room)?;
+    read_generated(alloc, &mut done[first..], fillings, table, &mut room)?;
     made.reserve(room)?;
     Ok(())
 }
@@ -181,8 +183,11 @@ fn expand_rounds(alloc: Global, grammar: Grammar, limit: u16) -> NormResult<Expa
     let mut grammar = grammar;
     let items = mem::replace(&mut grammar.items, Vec::new(alloc));
     let (others, macros) = without_macros(alloc, items)?;
-    let hole = numbers_of_hole(alloc)?;
-    let makers = Makers { macros, hole };
+    let placeholder = numbers_of_placeholder(alloc)?;
+    let makers = Makers {
+        macros,
+        placeholder,
+    };
     let mut room = 0usize;
     let mut done = read_items(alloc, others, &mut table, &mut room)?;
     let mut made = Vec::with_capacity(alloc, room)?;

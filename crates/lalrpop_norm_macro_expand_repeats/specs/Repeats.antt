@@ -8,8 +8,8 @@ use Rattle.lalrpop_norm_model.specs.MadeRules.{repeat_rule}
 use Rattle.lalrpop_norm_macro_expand_rules.specs.Rules.{named_rule}
 
 -- the name that stands for what is repeated
-abbrev pub hole_name : List ℕ
-hole_name = codes "X"
+abbrev pub placeholder_name : List ℕ
+placeholder_name = codes "X"
 
 -- the rule of a repeat of that name, its alternatives over the second symbol
 abbrev pub repeat_shape : List ℕ → Span → RepeatOp → Part → Part → RuleData

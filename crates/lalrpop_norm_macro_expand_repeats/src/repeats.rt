@@ -6,7 +6,7 @@ ghost use Rattle.lalrpop_norm_tree.specs.Types.{type_view};
 ghost use Rattle.lalrpop_norm_tree.specs.Items.{alternative_view, rule_view};
 ghost use Rattle.lalrpop_norm_model.specs.MadeRules.{only_part, so_many, with_name, holding, star_rule, plus_rule, question_rule};
 ghost use Rattle.lalrpop_norm_model.specs.Replaced.{replaced};
-ghost use Rattle.lalrpop_norm_macro_expand_repeats.specs.Repeats.{hole_name, repeat_shape};
+ghost use Rattle.lalrpop_norm_macro_expand_repeats.specs.Repeats.{placeholder_name, repeat_shape};
 
 use lalrpop_norm_macro_expand_rules::rules::{Head, coded, inline_at, private_rule, repeat_of};
 use lalrpop_norm_tree::grammar::parse_tree::{
@@ -18,16 +18,16 @@ use std::alloc::Global;
 // ---- parts
 
 /// The name that stands for what is repeated, X, in the rules of [`repeat_rule`]. The only error is a failed allocation.
-pub fn hole_name(alloc: Global) -> Result<NonterminalString, NoMemory>
-    ensures { IfOk result (λ n. n.0 ≡ hole_name) }
+pub fn placeholder_name(alloc: Global) -> Result<NonterminalString, NoMemory>
+    ensures { IfOk result (λ n. n.0 ≡ placeholder_name) }
 {
     Ok(NonterminalString(Atom::new(alloc, "X")?))
 }
 
-fn hole_at(alloc: Global, span: Span) -> Result<Symbol, NoMemory>
-    ensures { IfOk result (λ s. symbol_view s ≡ at span (nonterminal hole_name)) }
+fn placeholder_at(alloc: Global, span: Span) -> Result<Symbol, NoMemory>
+    ensures { IfOk result (λ s. symbol_view s ≡ at span (nonterminal placeholder_name)) }
 {
-    let name = hole_name(alloc)?;
+    let name = placeholder_name(alloc)?;
     Ok(Symbol::new(span, SymbolKind::Nonterminal(name)))
 }
 
@@ -204,7 +204,7 @@ fn times_rule(
 }
 
 /// The rule of a repeat of the symbol `inner` by that operator: it has the name and the span of the head, and the attributes and
-/// the type of such a repeat. In its alternatives the name that [`hole_name`] answers stands for the symbol, at the symbol's
+/// the type of such a repeat. In its alternatives the name that [`placeholder_name`] answers stands for the symbol, at the symbol's
 /// span. What is desugared is to be rewritten in the symbol. The only error is a failed allocation.
 pub fn repeat_rule(
     alloc: Global,
@@ -214,9 +214,9 @@ pub fn repeat_rule(
 ) -> Result<NonterminalData, NoMemory>
     requires { replaced (symbol_view inner.now) ≡ symbol_view inner.now }
     ensures { IfOk result (λ r. rule_view r
-        ≡ repeat_shape head.name head.span op (symbol_view inner.now) (at inner.now.span (nonterminal hole_name))) }
+        ≡ repeat_shape head.name head.span op (symbol_view inner.now) (at inner.now.span (nonterminal placeholder_name))) }
 {
-    let over = hole_at(alloc, inner.span)?;
+    let over = placeholder_at(alloc, inner.span)?;
     match op {
         RepeatOp::Star => star_rule(alloc, head, inner, &over),
         RepeatOp::Plus => plus_rule(alloc, head, inner, &over),

@@ -15,7 +15,7 @@ use Rattle.lalrpop_norm_nodes.specs.Given.{IsGiven}
 use Rattle.lalrpop_norm_nodes.specs.Wholes.{Whole, kind_at}
 use Rattle.lalrpop_norm_macro_expand_rules.specs.declared.substituted.Bindings.{Bindings}
 use Rattle.lalrpop_norm_macro_expand_rules.specs.Bound.{bound_kind, AreByNumber}
-use Rattle.lalrpop_norm_macro_expand_rules.specs.Pending.{given_numbered, whole_numbered, shown_numbered}
+use Rattle.lalrpop_norm_macro_expand_rules.specs.Generated.{given_numbered, whole_numbered, shown_numbered}
 
 -- ---- indices in a list with one more item in front
 

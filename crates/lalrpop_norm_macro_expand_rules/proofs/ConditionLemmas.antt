@@ -4,6 +4,7 @@ use Rattle.lalrpop_norm_tree_names.specs.declared.names.NonterminalString.{Nonte
 use Rattle.lalrpop_norm_tree_names.specs.declared.names.TerminalString.TheVariants.{Literal, Bare, Error}
 use Rattle.lalrpop_norm_tree_names.specs.declared.names.TerminalLiteral.TheVariants.{Quoted, Regex}
 use Rattle.lalrpop_norm_tree.specs.declared.items.Condition.{Condition}
+use Rattle.lalrpop_norm_tree.specs.Accessors.{is_grammar_symbol}
 use Rattle.lalrpop_norm_tree.specs.Symbols.{Kind, terminal, at, Parts, no_parts, part_and}
 use Rattle.lalrpop_norm_conditions.specs.Conditions.{comparison}
 use Rattle.lalrpop_norm_model.specs.Grammars.{bound_argument, is_true, value_of}
@@ -11,6 +12,11 @@ use Rattle.lalrpop_norm_model.specs.Reading.{read_kind, read_part, read_parts, r
 use Rattle.lalrpop_norm_model.specs.MadeRules.{flat_reader, argument_kind}
 use Rattle.lalrpop_norm_model.proofs.SubstitutedLemmas.{flat_part}
 use Rattle.lalrpop_norm_macro_expand_rules.specs.Conditions.{quoted_text}
+
+-- what is no terminal has no text
+pub no_text : (k : Kind) → is_grammar_symbol k ≡ false → quoted_text (Some k) ≡ None
+no_text (terminal t) e = absurd (cc e)
+no_text _ e = refl
 
 -- what a name is bound to, read
 bound_read : (params : List NonterminalString) (b a : ℕ) (ps : Parts) (n : List ℕ) →

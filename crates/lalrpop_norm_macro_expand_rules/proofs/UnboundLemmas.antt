@@ -14,7 +14,7 @@ use Rattle.lalrpop_norm_nodes.specs.Given.{IsGiven}
 use Rattle.lalrpop_norm_nodes.specs.Waits.{parts_replaced}
 use Rattle.lalrpop_norm_nodes.specs.Wholes.{Whole, kind_at}
 use Rattle.lalrpop_norm_nodes.proofs.MapLemmas.{parts_kept}
-use Rattle.lalrpop_norm_macro_expand_rules.specs.Pending.{met_filled, shown_filled, read_filled, given_numbered, whole_numbered, shown_numbered}
+use Rattle.lalrpop_norm_macro_expand_rules.specs.Generated.{met_filled, shown_filled, read_filled, given_numbered, whole_numbered, shown_numbered}
 
 abbrev unbound : List ℕ → Option Kind
 unbound n = None

@@ -15,7 +15,7 @@ use crate::substituted::{Bindings, bound_to, symbol_bound};
 use lalrpop_norm_conditions::{ConditionError, holds, reason};
 use lalrpop_norm_faults::{FaultKind, NormFailure, NormResult, refusal};
 use lalrpop_norm_tree::grammar::parse_tree::{
-    Atom, Condition, NonterminalString, SymbolKind, TerminalLiteral, TerminalString,
+    Atom, Condition, GrammarSymbol, NonterminalString, TerminalLiteral, TerminalString,
 };
 use std::alloc::{AllocError, Global};
 
@@ -31,23 +31,16 @@ fn quoted(token: &TerminalString) -> Option<&Atom>
 }
 
 /// The text of the quoted literal that a name is bound to.
+#[tactic(auto, using(crate::proofs::ConditionLemmas::no_text))]
 fn literal_bound<'a>(bindings: &Bindings<'a>, name: &NonterminalString) -> Option<&'a Atom>
     requires numbers { AreByNumber bindings.now }
     ensures { option_map (λ t. t.now) result ≡ quoted_text (argument_in bindings.now name.now.0) }
 {
-    match bound_to(bindings, name)? {
-        SymbolKind::Terminal(token) => quoted(token),
-        SymbolKind::Expr(_)
-        | SymbolKind::AmbiguousId(_)
-        | SymbolKind::Nonterminal(_)
-        | SymbolKind::Macro(_)
-        | SymbolKind::Repeat(_)
-        | SymbolKind::Choose(_)
-        | SymbolKind::Name(_, _)
-        | SymbolKind::Tuple(_, _)
-        | SymbolKind::Lookahead
-        | SymbolKind::Lookbehind
-        | SymbolKind::Error => None,
+    match bound_to(bindings, name)?.as_grammar_symbol() {
+        Some(GrammarSymbol::Terminal(token)) => quoted(token),
+        Some(GrammarSymbol::Nonterminal(_)) => None,
+        Some(GrammarSymbol::Error) => None,
+        None => None,
     }
 }
 

@@ -5,11 +5,11 @@
 pub mod alternatives;
 pub mod conditions;
 mod copied;
+pub mod generated;
 pub mod groups;
 pub mod items;
 pub mod macros;
 pub mod names;
-pub mod pending;
 mod reading;
 pub mod rules;
 pub mod shortened;

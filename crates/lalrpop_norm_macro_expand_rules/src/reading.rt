@@ -8,7 +8,7 @@ ghost use Rattle.lalrpop_norm_nodes.specs.Given.{all_whole, all_shown};
 ghost use Rattle.lalrpop_norm_nodes.specs.Reads.{CanRead};
 ghost use Rattle.lalrpop_norm_nodes.specs.Tables.{wholes_in, IsCounted, TableMeets, refused_in};
 ghost use Rattle.lalrpop_norm_nodes.specs.Waits.{all_shown_met, LeavesWaiting};
-ghost use Rattle.lalrpop_norm_macro_expand_rules.specs.Pending.{met_there, shown_there, read_there};
+ghost use Rattle.lalrpop_norm_macro_expand_rules.specs.Generated.{met_there, shown_there, read_there};
 
 use lalrpop_norm_faults::NormResult;
 use lalrpop_norm_nodes::given::Environment;

@@ -6,7 +6,7 @@ ghost use Rattle.lalrpop_norm_model.specs.MadeRules.{bare_or_tuple_code, group_s
 ghost use Rattle.lalrpop_norm_model.specs.Replaced.{all_replaced};
 ghost use Rattle.lalrpop_norm_macro_expand_rules.specs.Sources.{types_code};
 
-use lalrpop_norm_session::norm_util::sources;
+use lalrpop_norm_common::norm_util::sources;
 use lalrpop_norm_tree::grammar::parse_tree::{NoMemory, Symbol, SymbolKind, TypeRef};
 use std::alloc::Global;
 

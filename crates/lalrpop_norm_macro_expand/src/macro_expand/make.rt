@@ -1,6 +1,6 @@
 //! The rules that symbols are desugared to.
 ghost use Rattle.std.specs.Prelude.{◌≡◌, ℕ, List, [], ◌∷◌, ◌++◌, Some, IfOk, IfSome, OnOk, map, option_to_list};
-ghost use Rattle.lalrpop_norm_tree.specs.Symbols.{at, group, call, repeated, kind_view, parts_view, expr_view, macro_view, symbol_view};
+ghost use Rattle.lalrpop_norm_tree.specs.Symbols.{at, group, call, kind_view, parts_view, expr_view, macro_view, symbol_view};
 ghost use Rattle.lalrpop_norm_tree.specs.SymbolTexts.{kind_text};
 ghost use Rattle.lalrpop_norm_tree.specs.Items.{item_view, rule_item, rule_view};
 ghost use Rattle.lalrpop_norm_faults.specs.Faults.{Refuses, RefusesOr, fault_if};
@@ -9,37 +9,37 @@ ghost use Rattle.lalrpop_norm_conditions.specs.Conditions.{comparison};
 ghost use Rattle.lalrpop_norm_names.specs.Numbers.{IsNumbering};
 ghost use Rattle.lalrpop_norm_model.specs.MadeRules.{argument_kind, macro_named, group_rule, some_name_value};
 ghost use Rattle.lalrpop_norm_model.specs.Replaced.{all_replaced};
-ghost use Rattle.lalrpop_norm_nodes.specs.NodeParts.{call_parts, repeated_kind, IsShallow, IsWaiting, AreWaiting};
+ghost use Rattle.lalrpop_norm_nodes.specs.NodeParts.{call_parts, IsShallow, IsWaiting, AreWaiting};
 ghost use Rattle.lalrpop_norm_nodes.specs.Tables.{wholes_in, IsNodeTable};
 ghost use Rattle.lalrpop_norm_nodes.specs.Given.{IsGiven};
 ghost use Rattle.lalrpop_norm_nodes.specs.declared.given.Given.{Given};
 ghost use Rattle.lalrpop_norm_nodes.specs.Wholes.{Whole, kind_at};
 ghost use Rattle.lalrpop_norm_macro_expand_rules.specs.Conditions.{called_faults, instance_faults};
 ghost use Rattle.lalrpop_norm_macro_expand_rules.specs.Macros.{macros_in, HasNumbers, AreByName};
-ghost use Rattle.lalrpop_norm_macro_expand_rules.specs.Pending.{unread_rule, item_of, filling_of, given_numbered, whole_numbered};
-ghost use Rattle.lalrpop_norm_macro_expand_rules.specs.Pending.{shown_numbered, filling_view, pending_view, IsReadable, AreReadable};
-ghost use Rattle.lalrpop_norm_macro_expand.specs.Expansion.{unmade, unmade_repeat};
+ghost use Rattle.lalrpop_norm_macro_expand_rules.specs.Generated.{unread_rule, item_of, filling_of, given_numbered, whole_numbered};
+ghost use Rattle.lalrpop_norm_macro_expand_rules.specs.Generated.{shown_numbered, filling_view, generated_view, IsReadable, AreReadable};
+ghost use Rattle.lalrpop_norm_macro_expand.specs.Expansion.{unmade};
 ghost use Rattle.lalrpop_norm_macro_expand.specs.Kept.{kept_by, kept_by_call};
 ghost use Rattle.lalrpop_norm_macro_expand.specs.Made.{made_view};
-ghost use Rattle.lalrpop_norm_macro_expand.specs.Making.{instance_shape, call_pending, hole, repeat_pending, pending_of, pending_for};
-ghost use Rattle.lalrpop_norm_macro_expand.specs.Making.{pending_list, round_pending, round_unmade, round_made};
+ghost use Rattle.lalrpop_norm_macro_expand.specs.Making.{instance_shape, call_generated, placeholder_names, generated_of, generated_for};
+ghost use Rattle.lalrpop_norm_macro_expand.specs.Making.{generated_list, round_generated, round_unmade, round_made};
 
 use super::instance::instance_rule;
+use super::repeats::repeat_of;
+use lalrpop_norm_common::norm_util::has_name_value;
 use lalrpop_norm_faults::{FaultKind, NormResult, refusal};
-use lalrpop_norm_macro_expand_repeats::repeats::{hole_name, repeat_rule};
+use lalrpop_norm_macro_expand_rules::generated::{Filling, GeneratedRule};
 use lalrpop_norm_macro_expand_rules::groups::{group_rule, location_rule};
 use lalrpop_norm_macro_expand_rules::macros::{Macros, NumberedMacro};
-use lalrpop_norm_macro_expand_rules::pending::{Filling, Pending};
 use lalrpop_norm_macro_expand_rules::rules::Head;
 use lalrpop_norm_macro_expand_rules::shortened::{shortened, shortened_symbol};
 use lalrpop_norm_names::Names;
 use lalrpop_norm_nodes::given::Given;
-use lalrpop_norm_nodes::parts::{given_by_call, repeated_number};
+use lalrpop_norm_nodes::parts::given_by_call;
 use lalrpop_norm_nodes::table::{Table, Waiting};
-use lalrpop_norm_session::norm_util::{has_name_value, names_value};
 use lalrpop_norm_tree::grammar::parse_tree::{
-    ActionKind, Atom, ExprSymbol, GrammarItem, MacroSymbol, NoMemory, NonterminalData, RepeatOp,
-    RepeatSymbol, Span, Symbol, SymbolKind,
+    ActionKind, Atom, ExprSymbol, GrammarItem, MacroSymbol, NoMemory, NonterminalData, Symbol,
+    SymbolKind,
 };
 use std::alloc::{AllocError, Global};
 use std::mem;
@@ -50,39 +50,13 @@ pub(super) struct Makers {
     /// The macros.
     pub(super) macros: Macros,
     /// The table with the index of the one name that stands for what is repeated, in the rule of each repeat.
-    pub(super) hole: Names,
-}
-
-/// The table with the index of the one name that stands for what is repeated. The only error is a failed allocation.
-pub(super) fn numbers_of_hole(alloc: Global) -> Result<Names, NoMemory>
-    ensures { IfOk result (IsNumbering (map (λ n. n.0) hole)) }
-{
-    let names = [hole_name(alloc)?];
-    Names::of(alloc, &names)
-}
-
-/// The symbol under the name, or the tuple of names, of a symbol.
-fn inner(symbol: &Symbol) -> Option<&Symbol> {
-    match &symbol.kind {
-        SymbolKind::Name(_, inner) => Some(&**inner),
-        SymbolKind::Tuple(_, inner) => Some(&**inner),
-        SymbolKind::Expr(_)
-        | SymbolKind::AmbiguousId(_)
-        | SymbolKind::Terminal(_)
-        | SymbolKind::Nonterminal(_)
-        | SymbolKind::Macro(_)
-        | SymbolKind::Repeat(_)
-        | SymbolKind::Choose(_)
-        | SymbolKind::Lookahead
-        | SymbolKind::Lookbehind
-        | SymbolKind::Error => None,
-    }
+    pub(super) placeholder: Names,
 }
 
 fn group_message(alloc: Global, name: &Atom, symbols: &[Symbol]) -> Result<String, AllocError> {
     let name = shortened(alloc, name.as_str())?;
     for symbol in symbols {
-        if let Some(inner) = inner(symbol) {
+        if let Some((_, inner)) = symbol.kind.as_bound() {
             let named = shortened_symbol(alloc, symbol)?;
             let inner = shortened_symbol(alloc, inner)?;
             return format!(in alloc;
@@ -93,22 +67,6 @@ fn group_message(alloc: Global, name: &Atom, symbols: &[Symbol]) -> Result<Strin
     format!(in alloc;
         "a symbol in the group `{name}` has a name: leave out the name, or write a rule with code for the group"
     )
-}
-
-fn times_message(alloc: Global, name: &Atom, symbol: &Symbol) -> Result<String, AllocError> {
-    let name = shortened(alloc, name.as_str())?;
-    match inner(symbol) {
-        Some(inner) => {
-            let named = shortened_symbol(alloc, symbol)?;
-            let inner = shortened_symbol(alloc, inner)?;
-            format!(in alloc;
-                "the symbol repeated in `{name}` has a name: write `<{inner}>` in place of `<{named}>`, or write a rule with code for the symbol"
-            )
-        }
-        None => format!(in alloc;
-            "the symbol repeated in `{name}` has a name: leave out the name, or write a rule with code for the symbol"
-        ),
-    }
 }
 
 /// The rule of a group, which takes its symbols.
@@ -129,69 +87,13 @@ fn group_of(alloc: Global, head: Head, expr: &mut ExprSymbol) -> NormResult<Nont
     Ok(group_rule(alloc, head, symbols)?)
 }
 
-/// Looks for a named or tuple symbol under `X{n}`.
-fn check_times(
-    alloc: Global,
-    name: &Atom,
-    span: Span,
-    op: RepeatOp,
-    symbol: &Symbol,
-) -> NormResult<()>
-    ensures { Refuses result (unmade_repeat span op (symbol_view symbol.now)) }
-{
-    match op {
-        RepeatOp::Star | RepeatOp::Plus | RepeatOp::Question => Ok(()),
-        RepeatOp::Times(_) => {
-            let named = names_value(symbol);
-            if named {
-                return Err(refusal(
-                    FaultKind::NamedInTimes,
-                    span,
-                    times_message(alloc, name, symbol),
-                ));
-            }
-            Ok(())
-        }
-    }
-}
-
-/// The rule of a repeat, which takes what is repeated.
-///
-/// Errors: F57 (`NamedInTimes`) if a named or tuple symbol is repeated by `X{n}`; `Memory`.
-fn repeat_of<'m>(
-    alloc: Global,
-    numbers: &'m Names,
-    table: &Table,
-    number: usize,
-    head: Head,
-    repeat: &mut RepeatSymbol,
-) -> NormResult<Pending<'m>>
-    requires numbers { IsNumbering (map (λ n. n.0) hole) numbers.now }
-    requires table { IsNodeTable table.now }
-    requires shallow { IsShallow (wholes_in table.now) number (repeated repeat.old.op (symbol_view repeat.old.symbol)) }
-    ensures refuses { Refuses result (unmade_repeat head.span repeat.old.op (symbol_view repeat.old.symbol)) }
-    ensures pending { IfOk result (λ p. pending_view (wholes_in table.now) p
-        ≡ repeat_pending head.name head.span repeat.old.op
-        (repeated_kind (kind_at (wholes_in table.now) number)) (symbol_view repeat.old.symbol)) }
-    ensures readable { IfOk result (λ p. IsReadable (wholes_in table.now) p.filling) }
-{
-    check_times(alloc, &head.name, head.span, repeat.op, &repeat.symbol)?;
-    let number = repeated_number(table, number);
-    let nothing = Symbol::new(head.span, SymbolKind::Error);
-    let symbol = mem::replace(&mut repeat.symbol, nothing);
-    let rule = repeat_rule(alloc, head, repeat.op, &symbol)?;
-    let given = vec![in alloc; Given { number, symbol }]?;
-    let filling = Some(Filling { numbers, given });
-    Ok(Pending { rule, filling })
-}
-
 /// The rule of a call of that macro, in the environment that binds its names to these.
-fn with_given<'m>(
+fn with_environment<'m>(
     called: &'m NumberedMacro,
     rule: NonterminalData,
     given: Vec<Given>,
-) -> Pending<'m>
-    ensures pending { (ws : List Whole) → pending_view ws result
+) -> GeneratedRule<'m>
+    ensures generated { (ws : List Whole) → generated_view ws result
         ≡ unread_rule (rule_view rule) (whole_numbered ws called.now.numbers given.items) (shown_numbered called.now.numbers given.items) }
     ensures readable { (ws : List Whole)
         → ((n : List ℕ) (g : Given) → given_numbered called.now.numbers given.items n ≡ Some g → IsGiven ws g)
@@ -201,7 +103,7 @@ fn with_given<'m>(
         numbers: &called.numbers,
         given,
     };
-    Pending {
+    GeneratedRule {
         rule,
         filling: Some(filling),
     }
@@ -217,12 +119,12 @@ fn instance_of<'m>(
     head: Head,
     called: &'m NumberedMacro,
     arguments: Vec<Symbol>,
-) -> NormResult<(Pending<'m>, Vec<usize>)>
+) -> NormResult<(GeneratedRule<'m>, Vec<usize>)>
     requires numbers { HasNumbers called.now }
     requires table { IsNodeTable table.now }
     requires shallow { IsShallow (wholes_in table.now) number (call called.now.definition.name.0 (parts_view arguments.items)) }
     ensures refuses { Refuses result (instance_faults (rule_view called.now.definition) (parts_view arguments.items)) }
-    ensures pending { IfOk result (λ o. pending_view (wholes_in table.now) o.0
+    ensures generated { IfOk result (λ o. generated_view (wholes_in table.now) o.0
         ≡ unread_rule (instance_shape head.name head.span (rule_view called.now.definition) (parts_view arguments.items))
         (argument_kind called.now.definition.args.items (call_parts (kind_at (wholes_in table.now) number)))
         (argument_kind called.now.definition.args.items (parts_view arguments.items))) }
@@ -232,38 +134,38 @@ fn instance_of<'m>(
 {
     let instance = instance_rule(alloc, head, called, &arguments)?;
     let given = given_by_call(alloc, table, number, arguments)?;
-    let pending = with_given(called, instance.rule, given);
-    Ok((pending, instance.kept))
+    let generated = with_environment(called, instance.rule, given);
+    Ok((generated, instance.kept))
 }
 
 /// What a symbol is desugared to.
 #[derive(Drop)]
 struct Making<'m> {
     /// Its rule, if it is desugared.
-    pending: Option<Pending<'m>>,
+    generated: Option<GeneratedRule<'m>>,
     /// Of a macro call the indices, among the macro's alternatives, of those that the rule has.
     kept: Vec<usize>,
 }
 
 /// What a symbol that calls no macro is desugared to.
-fn without_call<'m>(alloc: Global, pending: Option<Pending<'m>>) -> Making<'m>
-    ensures { (result.pending ≡ pending.entry) × (result.kept.items ≡ []) }
+fn without_call<'m>(alloc: Global, generated: Option<GeneratedRule<'m>>) -> Making<'m>
+    ensures { (result.generated ≡ generated.entry) × (result.kept.items ≡ []) }
 {
     Making {
-        pending,
+        generated,
         kept: Vec::new(alloc),
     }
 }
 
 /// What a symbol is desugared to whose rule has nothing left to be read.
 fn finished<'m>(alloc: Global, rule: NonterminalData) -> Making<'m>
-    ensures { (result.pending ≡ Some (record { rule = rule; filling = None })) × (result.kept.items ≡ []) }
+    ensures { (result.generated ≡ Some (record { rule = rule; filling = None })) × (result.kept.items ≡ []) }
 {
-    let pending = Pending {
+    let generated = GeneratedRule {
         rule,
         filling: None,
     };
-    without_call(alloc, Some(pending))
+    without_call(alloc, Some(generated))
 }
 
 /// The rule of a macro call, if there is a macro of that name; it takes the arguments.
@@ -280,19 +182,19 @@ fn called_of<'m>(
     requires shallow { IsShallow (wholes_in table.now) number (call (macro_view instance.old).0 (macro_view instance.old).1) }
     ensures refuses { Refuses result
         (called_faults (macro_named (macros_in macros.now) (macro_view instance.old).0) (macro_view instance.old).1) }
-    ensures pending { IfOk result (λ m. pending_list (wholes_in table.now) m.pending
-        ≡ call_pending head.name head.span (macro_named (macros_in macros.now) (macro_view instance.old).0)
+    ensures generated { IfOk result (λ m. generated_list (wholes_in table.now) m.generated
+        ≡ call_generated head.name head.span (macro_named (macros_in macros.now) (macro_view instance.old).0)
         (call_parts (kind_at (wholes_in table.now) number)) (macro_view instance.old).1) }
-    ensures readable { IfOk result (λ m. IfSome m.pending (λ p. IsReadable (wholes_in table.now) p.filling)) }
+    ensures readable { IfOk result (λ m. IfSome m.generated (λ p. IsReadable (wholes_in table.now) p.filling)) }
     ensures kept { IfOk result (λ m. m.kept.items
         ≡ kept_by_call comparison (macro_named (macros_in macros.now) (macro_view instance.old).0) (macro_view instance.old).1) }
 {
     match macros.find(&instance.name) {
         Some(called) => {
             let arguments = mem::replace(&mut instance.args, Vec::new(alloc));
-            let (pending, kept) = instance_of(alloc, table, number, head, called, arguments)?;
+            let (generated, kept) = instance_of(alloc, table, number, head, called, arguments)?;
             Ok(Making {
-                pending: Some(pending),
+                generated: Some(generated),
                 kept,
             })
         }
@@ -313,14 +215,14 @@ fn rule_of<'m>(
     kind: &mut SymbolKind,
 ) -> NormResult<Making<'m>>
     requires macros { AreByName makers.now.macros }
-    requires hole { IsNumbering (map (λ n. n.0) hole) makers.now.hole }
+    requires placeholder { IsNumbering (map (λ n. n.0) placeholder_names) makers.now.placeholder }
     requires table { IsNodeTable table.now }
     requires shallow { IsShallow (wholes_in table.now) number (kind_view kind.old) }
     requires name { head.name ≡ kind_text (kind_view kind.old) }
     ensures refuses { Refuses result (unmade (macros_in makers.now.macros) (at head.span (kind_view kind.old))) }
-    ensures pending { IfOk result (λ m. pending_list (wholes_in table.now) m.pending
-        ≡ pending_of (macros_in makers.now.macros) (kind_at (wholes_in table.now) number) (at head.span (kind_view kind.old))) }
-    ensures readable { IfOk result (λ m. IfSome m.pending (λ p. IsReadable (wholes_in table.now) p.filling)) }
+    ensures generated { IfOk result (λ m. generated_list (wholes_in table.now) m.generated
+        ≡ generated_of (macros_in makers.now.macros) (kind_at (wholes_in table.now) number) (at head.span (kind_view kind.old))) }
+    ensures readable { IfOk result (λ m. IfSome m.generated (λ p. IsReadable (wholes_in table.now) p.filling)) }
     ensures kept { IfOk result (λ m. m.kept.items
         ≡ kept_by comparison (macros_in makers.now.macros) (at head.span (kind_view kind.old))) }
 {
@@ -333,8 +235,8 @@ fn rule_of<'m>(
             called_of(alloc, &makers.macros, table, number, head, instance)
         }
         SymbolKind::Repeat(repeat) => {
-            let pending = repeat_of(alloc, &makers.hole, table, number, head, repeat)?;
-            Ok(without_call(alloc, Some(pending)))
+            let generated = repeat_of(alloc, &makers.placeholder, table, number, head, repeat)?;
+            Ok(without_call(alloc, Some(generated)))
         }
         SymbolKind::Lookahead => {
             let rule = location_rule(alloc, head, ActionKind::Lookahead)?;
@@ -344,31 +246,25 @@ fn rule_of<'m>(
             let rule = location_rule(alloc, head, ActionKind::Lookbehind)?;
             Ok(finished(alloc, rule))
         }
-        SymbolKind::AmbiguousId(_)
-        | SymbolKind::Terminal(_)
-        | SymbolKind::Nonterminal(_)
-        | SymbolKind::Choose(_)
-        | SymbolKind::Name(_, _)
-        | SymbolKind::Tuple(_, _)
-        | SymbolKind::Error => Ok(without_call(alloc, None)),
+        _ => Ok(without_call(alloc, None)),
     }
 }
 
 /// The rule of a symbol on the worklist, if it is desugared.
-fn pending_rule<'m>(
+fn generated_rule<'m>(
     alloc: Global,
     makers: &'m Makers,
     table: &Table,
     waiting: Waiting,
 ) -> NormResult<Making<'m>>
     requires macros { AreByName makers.now.macros }
-    requires hole { IsNumbering (map (λ n. n.0) hole) makers.now.hole }
+    requires placeholder { IsNumbering (map (λ n. n.0) placeholder_names) makers.now.placeholder }
     requires table { IsNodeTable table.now }
     requires waiting { IsWaiting (wholes_in table.now) waiting }
     ensures refuses { Refuses result (unmade (macros_in makers.now.macros) (symbol_view waiting.symbol)) }
-    ensures pending { IfOk result (λ m. pending_list (wholes_in table.now) m.pending
-        ≡ pending_for (wholes_in table.now) (macros_in makers.now.macros) waiting) }
-    ensures readable { IfOk result (λ m. IfSome m.pending (λ p. IsReadable (wholes_in table.now) p.filling)) }
+    ensures generated { IfOk result (λ m. generated_list (wholes_in table.now) m.generated
+        ≡ generated_for (wholes_in table.now) (macros_in makers.now.macros) waiting) }
+    ensures readable { IfOk result (λ m. IfSome m.generated (λ p. IsReadable (wholes_in table.now) p.filling)) }
     ensures kept { IfOk result (λ m. m.kept.items ≡ kept_by comparison (macros_in makers.now.macros) (symbol_view waiting.symbol)) }
 {
     let Some(name) = table.text_of(waiting.number) else {
@@ -401,16 +297,16 @@ fn add_rule<'m>(
 ) -> Result<(), NoMemory>
     ensures made { OnOk result (map made_view made.new.items ≡ map made_view made.old.items ++ (number, making.entry.kept.items) ∷ []) }
     ensures rule { OnOk result (map item_view done.new.items
-        ≡ map item_view done.old.items ++ map (λ p. rule_item (rule_view p.rule)) (option_to_list making.entry.pending)) }
+        ≡ map item_view done.old.items ++ map (λ p. rule_item (rule_view p.rule)) (option_to_list making.entry.generated)) }
     ensures filling { OnOk result (fillings.new.items
-        ≡ fillings.old.items ++ map (λ p. p.filling) (option_to_list making.entry.pending)) }
+        ≡ fillings.old.items ++ map (λ p. p.filling) (option_to_list making.entry.generated)) }
 {
-    let Making { pending, kept } = making;
+    let Making { generated, kept } = making;
     made.push(MadeSymbol { number, kept })?;
-    match pending {
-        Some(pending) => {
-            done.push(GrammarItem::Nonterminal(pending.rule))?;
-            fillings.push(pending.filling)?;
+    match generated {
+        Some(generated) => {
+            done.push(GrammarItem::Nonterminal(generated.rule))?;
+            fillings.push(generated.filling)?;
             Ok(())
         }
         None => Ok(()),
@@ -428,14 +324,14 @@ pub(super) fn make_rules<'m>(
     done: &mut Vec<GrammarItem>,
 ) -> NormResult<Vec<Option<Filling<'m>>>>
     requires macros { AreByName makers.now.macros }
-    requires hole { IsNumbering (map (λ n. n.0) hole) makers.now.hole }
+    requires placeholder { IsNumbering (map (λ n. n.0) placeholder_names) makers.now.placeholder }
     requires table { IsNodeTable table.now }
     requires waiting { AreWaiting (wholes_in table.now) waiting.items }
     ensures refuses { Refuses result (round_unmade (macros_in makers.now.macros) waiting.items) }
     ensures rules { OnOk result (map item_view done.new.items
-        ≡ map item_view done.old.items ++ map item_of (round_pending (wholes_in table.now) (macros_in makers.now.macros) waiting.items)) }
+        ≡ map item_view done.old.items ++ map item_of (round_generated (wholes_in table.now) (macros_in makers.now.macros) waiting.items)) }
     ensures fillings { IfOk result (λ fs. map (filling_view (wholes_in table.now)) fs.items
-        ≡ map filling_of (round_pending (wholes_in table.now) (macros_in makers.now.macros) waiting.items)) }
+        ≡ map filling_of (round_generated (wholes_in table.now) (macros_in makers.now.macros) waiting.items)) }
     ensures readable { IfOk result (λ fs. AreReadable (wholes_in table.now) fs.items) }
     ensures made { OnOk result (map made_view made.new.items
         ≡ map made_view made.old.items ++ round_made (macros_in makers.now.macros) waiting.items) }
@@ -445,7 +341,7 @@ pub(super) fn make_rules<'m>(
     let mut fillings = Vec::with_capacity(alloc, waiting.len())?;
     for symbol in waiting {
         let number = symbol.number;
-        let making = pending_rule(alloc, makers, table, symbol)?;
+        let making = generated_rule(alloc, makers, table, symbol)?;
         add_rule(number, making, made, done, &mut fillings)?;
     }
     Ok(fillings)

@@ -8,7 +8,7 @@ use Rattle.lalrpop_norm_model.specs.PlainRules.{all_met, met_in_rule, replaced_a
 use Rattle.lalrpop_norm_nodes.specs.Tables.{wholes_in, TableMeets, refused_in}
 use Rattle.lalrpop_norm_nodes.specs.Waits.{parts_replaced, LeavesWaiting}
 use Rattle.lalrpop_norm_nodes.proofs.EnterLemmas.{err_same}
-use Rattle.lalrpop_norm_macro_expand_rules.specs.Pending.{met_filled, shown_filled, read_filled, whole_numbered, shown_numbered}
+use Rattle.lalrpop_norm_macro_expand_rules.specs.Generated.{met_filled, shown_filled, read_filled, whole_numbered, shown_numbered}
 use Rattle.lalrpop_norm_macro_expand_rules.proofs.UnboundLemmas.{none_given, none_met, none_shown, none_read}
 use Rattle.lalrpop_norm_macro_expand_rules.proofs.items.replace_rule.Goals as goal
 

@@ -10,7 +10,7 @@ use Rattle.lalrpop_norm_nodes.proofs.MeetLemmas.{meets_nothing}
 use Rattle.lalrpop_norm_nodes.proofs.RowReads.{first_same}
 use Rattle.lalrpop_norm_nodes.proofs.WaitLemmas.{waits_nothing}
 use Rattle.lalrpop_norm_nodes.proofs.WaitReads.{partly_waits}
-use Rattle.lalrpop_norm_macro_expand_rules.specs.Pending.{met_filled, shown_filled, read_filled}
+use Rattle.lalrpop_norm_macro_expand_rules.specs.Generated.{met_filled, shown_filled, read_filled}
 use Rattle.lalrpop_norm_macro_expand_rules.proofs.reading.read_alternatives.Goals as goal
 
 pub returns-in_err-read_alternative-clause-refuses : goal.returns-in_err-read_alternative-clause-refuses

@@ -4,7 +4,7 @@ use Rattle.lalrpop_norm_tree.specs.Items.{alternative_view}
 use Rattle.lalrpop_norm_nodes.specs.Given.{whole_for, shown_for, AreGiven}
 use Rattle.lalrpop_norm_nodes.specs.Tables.{wholes_in, IsCounted, TableMeets, refused_in}
 use Rattle.lalrpop_norm_nodes.specs.Waits.{LeavesWaiting}
-use Rattle.lalrpop_norm_macro_expand_rules.specs.Pending.{met_filled, shown_filled, read_filled}
+use Rattle.lalrpop_norm_macro_expand_rules.specs.Generated.{met_filled, shown_filled, read_filled}
 use Rattle.lalrpop_norm_macro_expand_rules.proofs.reading.read_alternatives.Given as goal
 
 abbrev pub invariant-loop-i : goal.invariant-loop-i

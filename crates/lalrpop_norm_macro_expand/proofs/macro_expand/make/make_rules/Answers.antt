@@ -9,12 +9,12 @@ use Rattle.lalrpop_norm_faults.proofs.FaultLemmas.{exit_at}
 use Rattle.lalrpop_norm_nodes.specs.declared.table.Waiting.{Waiting}
 use Rattle.lalrpop_norm_nodes.specs.NodeParts.{AreWaiting}
 use Rattle.lalrpop_norm_nodes.specs.Tables.{wholes_in}
-use Rattle.lalrpop_norm_macro_expand_rules.specs.declared.pending.Filling.{Filling}
+use Rattle.lalrpop_norm_macro_expand_rules.specs.declared.generated.Filling.{Filling}
 use Rattle.lalrpop_norm_macro_expand_rules.specs.Macros.{macros_in}
-use Rattle.lalrpop_norm_macro_expand_rules.specs.Pending.{PendingData, FillingData, item_of, filling_of, filling_view, AreReadable}
+use Rattle.lalrpop_norm_macro_expand_rules.specs.Generated.{GeneratedData, FillingData, item_of, filling_of, filling_view, AreReadable}
 use Rattle.lalrpop_norm_macro_expand.specs.Expansion.{unmade}
 use Rattle.lalrpop_norm_macro_expand.specs.Made.{made_view, made_for}
-use Rattle.lalrpop_norm_macro_expand.specs.Making.{pending_for}
+use Rattle.lalrpop_norm_macro_expand.specs.Making.{generated_for}
 use Rattle.lalrpop_norm_macro_expand.proofs.WaitingLists.{none_left, waiting_back, one_rule, one_filling, readable_more}
 use Rattle.lalrpop_norm_macro_expand.proofs.macro_expand.make.make_rules.Goals as goal
 
@@ -30,8 +30,8 @@ loop-symbol-init c =
       made = rw whole refl;
     }
 
-pub pending_rule-requires-clause-waiting : goal.pending_rule-requires-clause-waiting
-pending_rule-requires-clause-waiting c =
+pub generated_rule-requires-clause-waiting : goal.generated_rule-requires-clause-waiting
+generated_rule-requires-clause-waiting c =
     let ready : AreWaiting (wholes_in c.args.table.now) (c.in-Some.symbol ∷ c.next.new.self.rest.items) = rw c.in-Some.ensures.steps.0 at c.loop-symbol.invariant.waiting in
     ready.0
 
@@ -52,29 +52,29 @@ loop-symbol-preserved c =
     let rest : List Waiting = c.next.new.self.rest.items in
     let split : c.loop-symbol.symbol-iterator.rest.items ≡ w ∷ rest = c.in-Some.ensures.steps.0 in
     let unmade_of : List Waiting → List Fault = flat_map (λ x. unmade ms (symbol_view x.symbol)) in
-    let pending_by : List Waiting → List PendingData = flat_map (pending_for ws ms) in
+    let generated_by : List Waiting → List GeneratedData = flat_map (generated_for ws ms) in
     let ready : AreWaiting ws (w ∷ rest) = rw split at v.waiting in
-    let o = c.in_ok-making.making.pending in
-    let one = c.in_ok-making.ensures.pending in
+    let o = c.in_ok-making.making.generated in
+    let one = c.in_ok-making.ensures.generated in
     let done : List ItemData = map item_view c.loop-symbol.done.items in
     let filled : List FillingData = map (filling_view ws) c.loop-symbol.fillings.items in
-    let now = pending_for ws ms w in
+    let now = generated_for ws ms w in
     record {
       waiting = ready.1;
       refuses = ap (λ (fs : List Fault). fs ++ unmade_of rest) (sym c.in_ok-making.ensures.refuses) ∙ ap unmade_of (sym split) ∙ v.refuses;
       rules =
-          ap (λ (is : List ItemData). is ++ map item_of (pending_by rest)) (n.rule ∙ ap (λ (is : List ItemData). done ++ is) (one_rule ws o ∙ ap (map item_of) one))
-          ∙ append_assoc done (map item_of now) (map item_of (pending_by rest))
-          ∙ ap (λ (is : List ItemData). done ++ is) (sym (map-append item_of now (pending_by rest)))
-          ∙ ap (λ (xs : List Waiting). done ++ map item_of (pending_by xs)) (sym split)
+          ap (λ (is : List ItemData). is ++ map item_of (generated_by rest)) (n.rule ∙ ap (λ (is : List ItemData). done ++ is) (one_rule ws o ∙ ap (map item_of) one))
+          ∙ append_assoc done (map item_of now) (map item_of (generated_by rest))
+          ∙ ap (λ (is : List ItemData). done ++ is) (sym (map-append item_of now (generated_by rest)))
+          ∙ ap (λ (xs : List Waiting). done ++ map item_of (generated_by xs)) (sym split)
           ∙ v.rules;
       fillings =
-          ap (λ (fs : List FillingData). fs ++ map filling_of (pending_by rest))
+          ap (λ (fs : List FillingData). fs ++ map filling_of (generated_by rest))
           (ap (map (filling_view ws)) n.filling ∙ map-append (filling_view ws) c.loop-symbol.fillings.items (map (λ p. p.filling) (option_to_list o))
           ∙ ap (λ (fs : List FillingData). filled ++ fs) (one_filling ws o ∙ ap (map filling_of) one))
-          ∙ append_assoc filled (map filling_of now) (map filling_of (pending_by rest))
-          ∙ ap (λ (fs : List FillingData). filled ++ fs) (sym (map-append filling_of now (pending_by rest)))
-          ∙ ap (λ (xs : List Waiting). filled ++ map filling_of (pending_by xs)) (sym split)
+          ∙ append_assoc filled (map filling_of now) (map filling_of (generated_by rest))
+          ∙ ap (λ (fs : List FillingData). filled ++ fs) (sym (map-append filling_of now (generated_by rest)))
+          ∙ ap (λ (xs : List Waiting). filled ++ map filling_of (generated_by xs)) (sym split)
           ∙ v.fillings;
       readable =
           subst (λ (fs : List (Option Filling)). AreReadable ws fs) (sym n.filling)
@@ -95,14 +95,14 @@ pub returns-clause-rules : goal.returns-clause-rules
 returns-clause-rules c =
     let none : c.loop-symbol.symbol-iterator.rest.items ≡ [] = none_left c.loop-symbol.symbol-iterator.rest.items (omega (arith, c.in-None.ensures.steps.0)) in
     sym (append-nil (map item_view c.loop-symbol.done.items))
-    ∙ ap (λ (ws : List Waiting). map item_view c.loop-symbol.done.items ++ map item_of (flat_map (pending_for (wholes_in c.args.table.now) (macros_in c.args.makers.now.macros)) ws)) (sym none)
+    ∙ ap (λ (ws : List Waiting). map item_view c.loop-symbol.done.items ++ map item_of (flat_map (generated_for (wholes_in c.args.table.now) (macros_in c.args.makers.now.macros)) ws)) (sym none)
     ∙ c.loop-symbol.invariant.rules
 
 pub returns-clause-fillings : goal.returns-clause-fillings
 returns-clause-fillings c =
     let none : c.loop-symbol.symbol-iterator.rest.items ≡ [] = none_left c.loop-symbol.symbol-iterator.rest.items (omega (arith, c.in-None.ensures.steps.0)) in
     sym (append-nil (map (filling_view (wholes_in c.args.table.now)) c.loop-symbol.fillings.items))
-    ∙ ap (λ (ws : List Waiting). map (filling_view (wholes_in c.args.table.now)) c.loop-symbol.fillings.items ++ map filling_of (flat_map (pending_for (wholes_in c.args.table.now) (macros_in c.args.makers.now.macros)) ws)) (sym none)
+    ∙ ap (λ (ws : List Waiting). map (filling_view (wholes_in c.args.table.now)) c.loop-symbol.fillings.items ++ map filling_of (flat_map (generated_for (wholes_in c.args.table.now) (macros_in c.args.makers.now.macros)) ws)) (sym none)
     ∙ c.loop-symbol.invariant.fillings
 
 pub returns-clause-made : goal.returns-clause-made

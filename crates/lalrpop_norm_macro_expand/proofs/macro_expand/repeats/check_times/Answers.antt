@@ -5,7 +5,7 @@ use Rattle.lalrpop_norm_faults.specs.declared.kind.FaultKind.TheVariants.{NamedI
 use Rattle.lalrpop_norm_faults.specs.Faults.{Fault, IsFirst, fault_if}
 use Rattle.lalrpop_norm_model.specs.MadeRules.{names_value}
 use Rattle.lalrpop_norm_macro_expand.specs.Expansion.{unmade_repeat}
-use Rattle.lalrpop_norm_macro_expand.proofs.macro_expand.make.check_times.Goals as goal
+use Rattle.lalrpop_norm_macro_expand.proofs.macro_expand.repeats.check_times.Goals as goal
 
 pub returns-then-named : goal.returns-then-named
 returns-then-named c =

@@ -1,4 +1,4 @@
--- What is pending stays as the table grows, and is read one by one.
+-- Generated rules stay as the table grows, and are read one by one.
 use Rattle.std.proofs.Common.{◌≡◌, ℕ, ◌+◌, ◌<◌, List, ◌∷◌, Option, Some, None, length, map, get_or, set, drop, arith, refl, sym, ap, ◌∙◌}
 use Rattle.std.proofs.Math.Path.{fun_ext}
 use Rattle.std.proofs.lemmas.List.{drop_more, drop-set-lt}
@@ -7,8 +7,8 @@ use Rattle.lalrpop_norm_tree.specs.Symbols.{Kind}
 use Rattle.lalrpop_norm_tree.specs.Items.{item_view}
 use Rattle.lalrpop_norm_nodes.specs.Wholes.{Whole, Grows}
 use Rattle.lalrpop_norm_nodes.proofs.GivenLemmas.{given_stays, whole_stays}
-use Rattle.lalrpop_norm_macro_expand_rules.specs.declared.pending.Filling.{Filling}
-use Rattle.lalrpop_norm_macro_expand_rules.specs.Pending.{PendingData, given_numbered, shown_numbered, filling_view, filled_item, pending_in, IsReadable}
+use Rattle.lalrpop_norm_macro_expand_rules.specs.declared.generated.Filling.{Filling}
+use Rattle.lalrpop_norm_macro_expand_rules.specs.Generated.{GeneratedData, given_numbered, shown_numbered, filling_view, filled_item, generated_in, IsReadable}
 
 pub readable_stays : (ws vs : List Whole) (f : Option Filling) → Grows ws vs → IsReadable ws f → IsReadable vs f
 readable_stays ws vs None grows h = tt
@@ -23,14 +23,14 @@ filling_stays ws vs (Some f) grows h =
 -- ---- rules and their environments, side by side
 
 module _ (ws : List Whole) (items : List GrammarItem) (count place : ℕ) (rest : List (Option Filling)) where
-  pub pending_next : (fs : List (Option Filling)) (f : Option Filling) (d : GrammarItem) → place < length items → place ≡ count → fs ≡ f ∷ rest →
-      pending_in ws fs (drop count items) ≡ filled_item (filling_view ws f) (item_view (get_or items place d)) ∷ pending_in ws rest (drop (place + 1) items)
-  pending_next fs f d inside here split =
-      ap (λ (gs : List (Option Filling)). pending_in ws gs (drop count items)) split
-      ∙ ap (λ (n : ℕ). pending_in ws (f ∷ rest) (drop n items)) (sym here)
-      ∙ ap (pending_in ws (f ∷ rest)) (drop_more items place d inside)
+  pub generated_next : (fs : List (Option Filling)) (f : Option Filling) (d : GrammarItem) → place < length items → place ≡ count → fs ≡ f ∷ rest →
+      generated_in ws fs (drop count items) ≡ filled_item (filling_view ws f) (item_view (get_or items place d)) ∷ generated_in ws rest (drop (place + 1) items)
+  generated_next fs f d inside here split =
+      ap (λ (gs : List (Option Filling)). generated_in ws gs (drop count items)) split
+      ∙ ap (λ (n : ℕ). generated_in ws (f ∷ rest) (drop n items)) (sym here)
+      ∙ ap (generated_in ws (f ∷ rest)) (drop_more items place d inside)
 
-  pub pending_later : (y : GrammarItem) → count ≡ place + 1 → pending_in ws rest (drop (place + 1) items) ≡ pending_in ws rest (drop count (set items place y))
-  pending_later y later =
-      ap (pending_in ws rest) (sym (drop-set-lt (place + 1) items place y (omega arith)))
-      ∙ ap (λ (n : ℕ). pending_in ws rest (drop n (set items place y))) (sym later)
+  pub generated_later : (y : GrammarItem) → count ≡ place + 1 → generated_in ws rest (drop (place + 1) items) ≡ generated_in ws rest (drop count (set items place y))
+  generated_later y later =
+      ap (generated_in ws rest) (sym (drop-set-lt (place + 1) items place y (omega arith)))
+      ∙ ap (λ (n : ℕ). generated_in ws rest (drop n (set items place y))) (sym later)

@@ -1,5 +1,4 @@
--- Generated rules, and what is still to be read in them (pending): internal definitions, which no public contract clause
--- mentions.
+-- Generated rules, and what is still to be read in them: internal definitions, which no public contract clause mentions.
 use Rattle.std.specs.Prelude.{◌≡◌, ⊤, ℕ, List, [], ◌∷◌, map, flat_map, Option, Some, None, option_map, option_and_then, slice_get}
 use Rattle.lalrpop_norm_tree.specs.Symbols.{Kind, Part, kind_view}
 use Rattle.lalrpop_norm_tree.specs.declared.items.GrammarItem.{GrammarItem}
@@ -16,8 +15,8 @@ use Rattle.lalrpop_norm_nodes.specs.Given.{whole_for, shown_for, IsGiven}
 use Rattle.lalrpop_norm_nodes.specs.Tables.{wholes_in}
 use Rattle.lalrpop_norm_nodes.specs.Waits.{parts_replaced}
 use Rattle.lalrpop_norm_nodes.specs.Wholes.{Whole, kind_at}
-use Rattle.lalrpop_norm_macro_expand_rules.specs.declared.pending.Filling.{Filling}
-use Rattle.lalrpop_norm_macro_expand_rules.specs.declared.pending.Pending.{Pending}
+use Rattle.lalrpop_norm_macro_expand_rules.specs.declared.generated.Filling.{Filling}
+use Rattle.lalrpop_norm_macro_expand_rules.specs.declared.generated.GeneratedRule.{GeneratedRule}
 
 -- ---- alternatives that are read in an environment
 
@@ -45,31 +44,31 @@ read_there e = read_filled (shown_for e)
 -- ---- rules
 
 -- an item with nothing left to be read, or a rule in an environment: substituted, up to spans, and rewritten
-pub data PendingData : Type 0 where
-  finished_item : ItemData → PendingData
-  unread_rule : RuleData → (List ℕ → Option Kind) → (List ℕ → Option Kind) → PendingData
+pub data GeneratedData : Type 0 where
+  finished_item : ItemData → GeneratedData
+  unread_rule : RuleData → (List ℕ → Option Kind) → (List ℕ → Option Kind) → GeneratedData
 
-abbrev pub finished_rule : RuleData → PendingData
+abbrev pub finished_rule : RuleData → GeneratedData
 finished_rule r = finished_item (rule_item r)
 
-abbrev pub met_in_pending : PendingData → List Part
-met_in_pending (finished_item i) = []
-met_in_pending (unread_rule r whole shown) = flat_map (met_filled whole) r.alternatives
+abbrev pub met_in_generated : GeneratedData → List Part
+met_in_generated (finished_item i) = []
+met_in_generated (unread_rule r whole shown) = flat_map (met_filled whole) r.alternatives
 
-abbrev pub shown_in_pending : PendingData → List Part
-shown_in_pending (finished_item i) = []
-shown_in_pending (unread_rule r whole shown) = flat_map (shown_filled shown) r.alternatives
+abbrev pub shown_in_generated : GeneratedData → List Part
+shown_in_generated (finished_item i) = []
+shown_in_generated (unread_rule r whole shown) = flat_map (shown_filled shown) r.alternatives
 
-abbrev pub pending_read : PendingData → ItemData
-pending_read (finished_item i) = i
-pending_read (unread_rule r whole shown) = rule_item (record r { alternatives = map (read_filled shown) r.alternatives })
+abbrev pub generated_read : GeneratedData → ItemData
+generated_read (finished_item i) = i
+generated_read (unread_rule r whole shown) = rule_item (record r { alternatives = map (read_filled shown) r.alternatives })
 
 -- ---- items, and what is still to be read in them, side by side
 
 abbrev pub FillingData : Type 0
 FillingData = Option ((List ℕ → Option Kind) × (List ℕ → Option Kind))
 
-abbrev pub filled_item : FillingData → ItemData → PendingData
+abbrev pub filled_item : FillingData → ItemData → GeneratedData
 filled_item None i = finished_item i
 filled_item (Some f) (rule_item r) = unread_rule r f.0 f.1
 filled_item (Some f) (match_item m) = finished_item (match_item m)
@@ -77,15 +76,15 @@ filled_item (Some f) (extern_item t) = finished_item (extern_item t)
 filled_item (Some f) (intern_item t) = finished_item (intern_item t)
 filled_item (Some f) (use_item u) = finished_item (use_item u)
 
-abbrev pub filled_items : List FillingData → List ItemData → List PendingData
+abbrev pub filled_items : List FillingData → List ItemData → List GeneratedData
 filled_items (f ∷ fs) (i ∷ is) = filled_item f i ∷ filled_items fs is
 filled_items _ _ = []
 
-abbrev pub item_of : PendingData → ItemData
+abbrev pub item_of : GeneratedData → ItemData
 item_of (finished_item i) = i
 item_of (unread_rule r whole shown) = rule_item r
 
-abbrev pub filling_of : PendingData → FillingData
+abbrev pub filling_of : GeneratedData → FillingData
 filling_of (finished_item i) = None
 filling_of (unread_rule r whole shown) = Some (whole, shown)
 
@@ -105,15 +104,15 @@ abbrev pub filling_view : List Whole → Option Filling → FillingData
 filling_view ws None = None
 filling_view ws (Some f) = Some (whole_numbered ws f.numbers.now f.given.items, shown_numbered f.numbers.now f.given.items)
 
-abbrev pub filled_rule : List Whole → Filling → RuleData → PendingData
+abbrev pub filled_rule : List Whole → Filling → RuleData → GeneratedData
 filled_rule ws f r = unread_rule r (whole_numbered ws f.numbers.now f.given.items) (shown_numbered f.numbers.now f.given.items)
 
-abbrev pub pending_view : List Whole → Pending → PendingData
-pending_view ws p = filled_item (filling_view ws p.filling) (rule_item (rule_view p.rule))
+abbrev pub generated_view : List Whole → GeneratedRule → GeneratedData
+generated_view ws p = filled_item (filling_view ws p.filling) (rule_item (rule_view p.rule))
 
 -- rules and their environments, side by side
-abbrev pub pending_in : List Whole → List (Option Filling) → List GrammarItem → List PendingData
-pending_in ws fs is = filled_items (map (filling_view ws) fs) (map item_view is)
+abbrev pub generated_in : List Whole → List (Option Filling) → List GrammarItem → List GeneratedData
+generated_in ws fs is = filled_items (map (filling_view ws) fs) (map item_view is)
 
 -- the environment stands for symbols
 abbrev pub IsFilling : List Whole → Filling → Type 0

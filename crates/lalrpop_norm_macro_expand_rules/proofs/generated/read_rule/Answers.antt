@@ -3,8 +3,8 @@ use Rattle.std.proofs.lemmas.List.{length-map, with_items_is}
 use Rattle.lalrpop_norm_tree.specs.declared.items.Alternative.{Alternative}
 use Rattle.lalrpop_norm_tree.specs.Items.{AlternativeData, RuleData, rule_item, alternative_view, rule_view}
 use Rattle.lalrpop_norm_nodes.proofs.MeetingLemmas.{err_refuses}
-use Rattle.lalrpop_norm_macro_expand_rules.specs.Pending.{shown_numbered, read_filled}
-use Rattle.lalrpop_norm_macro_expand_rules.proofs.pending.read_rule.Goals as goal
+use Rattle.lalrpop_norm_macro_expand_rules.specs.Generated.{shown_numbered, read_filled}
+use Rattle.lalrpop_norm_macro_expand_rules.proofs.generated.read_rule.Goals as goal
 
 pub read_alternatives-requires : goal.read_alternatives-requires
 read_alternatives-requires c = record {

@@ -32,15 +32,15 @@ use Rattle.lalrpop_norm_nodes.proofs.ShallowMeetings.{MeetAlike, alike_none, ali
 use Rattle.lalrpop_norm_nodes.proofs.ShallowReadings.{copied, shown_in_each, met_in_each, each_read, call_copies, call_read, call_alike, repeat_read, repeat_alike, group_alike, location_alike}
 use Rattle.lalrpop_norm_nodes.proofs.ShallowRules.{argument_replaced, argument_unplaced, group_replaced}
 use Rattle.lalrpop_norm_macro_expand_rules.specs.Conditions.{quoted_text, comparison_faults, value_faults, instance_faults, called_faults}
-use Rattle.lalrpop_norm_macro_expand_rules.specs.Pending.{PendingData, finished_rule, unread_rule, met_in_pending, shown_in_pending, pending_read, read_filled}
-use Rattle.lalrpop_norm_macro_expand_repeats.specs.Repeats.{hole_name}
+use Rattle.lalrpop_norm_macro_expand_rules.specs.Generated.{GeneratedData, finished_rule, unread_rule, met_in_generated, shown_in_generated, generated_read, read_filled}
+use Rattle.lalrpop_norm_macro_expand_repeats.specs.Repeats.{placeholder_name}
 use Rattle.lalrpop_norm_macro_expand.specs.Expansion.{unmade, unmade_repeat}
-use Rattle.lalrpop_norm_macro_expand.specs.Making.{kept_of, instance_shape, call_pending, hole, repeat_pending, pending_of}
+use Rattle.lalrpop_norm_macro_expand.specs.Making.{kept_of, instance_shape, call_generated, placeholder_names, repeat_generated, generated_of}
 use Rattle.lalrpop_norm_macro_expand_rules.proofs.MacroLemmas.{named_so}
 
 -- the rules of a symbol, as the code makes them
-abbrev pub pending_by : List RuleData → Part → List PendingData
-pending_by macros p = pending_of macros (unplaced_kind (kind_of p)) (parts_replaced p)
+abbrev pub generated_by : List RuleData → Part → List GeneratedData
+generated_by macros p = generated_of macros (unplaced_kind (kind_of p)) (parts_replaced p)
 
 abbrev replaced_rules : List RuleData → List ItemData
 replaced_rules rs = map (λ r. rule_item (replaced_rule r)) rs
@@ -61,7 +61,7 @@ kept_copies s params args (a ∷ xs) = by (is_true comparison params (read_all f
 -- ---- what they are once they are read
 
 call_read_so : (s : Span) (n : List ℕ) (ps : Parts) (o : Option RuleData) → ((d : RuleData) → o ≡ Some d → d.name.0 ≡ n) →
-    map pending_read (call_pending (kind_text (call n (all_replaced ps))) s o (all_unplaced ps) (all_replaced ps)) ≡ replaced_rules (instance_of comparison s o ps)
+    map generated_read (call_generated (kind_text (call n (all_replaced ps))) s o (all_unplaced ps) (all_replaced ps)) ≡ replaced_rules (instance_of comparison s o ps)
 call_read_so s n ps None h = refl
 call_read_so s n ps (Some d) h =
     let shown = argument_kind d.args (all_replaced ps) in
@@ -72,41 +72,41 @@ call_read_so s n ps (Some d) h =
     ∙ ap (λ r. rule_item r ∷ []) (call_read (λ x. true) [] comparison s d ps shown (argument_replaced d.args ps))
 
 repeat_read_so : (s : Span) (op : RepeatOp) (sp : Span) (k : Kind) (whole : Kind) →
-    pending_read (repeat_pending (kind_text (repeated op (at sp (replaced_kind k)))) s op whole (at sp (replaced_kind k))) ≡ rule_item (replaced_rule (repeat_rule s op (at sp k)))
+    generated_read (repeat_generated (kind_text (repeated op (at sp (replaced_kind k)))) s op whole (at sp (replaced_kind k))) ≡ rule_item (replaced_rule (repeat_rule s op (at sp k)))
 repeat_read_so s Star sp k whole =
-    ap rule_item (repeat_read (λ x. true) [] s Star sp k (record { 0 = hole_name }) (argument_kind hole (only_part (at sp (replaced_kind k)))) (argument_replaced hole (only_part (at sp k))))
+    ap rule_item (repeat_read (λ x. true) [] s Star sp k (record { 0 = placeholder_name }) (argument_kind placeholder_names (only_part (at sp (replaced_kind k)))) (argument_replaced placeholder_names (only_part (at sp k))))
 repeat_read_so s Plus sp k whole =
-    ap rule_item (repeat_read (λ x. true) [] s Plus sp k (record { 0 = hole_name }) (argument_kind hole (only_part (at sp (replaced_kind k)))) (argument_replaced hole (only_part (at sp k))))
+    ap rule_item (repeat_read (λ x. true) [] s Plus sp k (record { 0 = placeholder_name }) (argument_kind placeholder_names (only_part (at sp (replaced_kind k)))) (argument_replaced placeholder_names (only_part (at sp k))))
 repeat_read_so s Question sp k whole =
-    ap rule_item (repeat_read (λ x. true) [] s Question sp k (record { 0 = hole_name }) (argument_kind hole (only_part (at sp (replaced_kind k)))) (argument_replaced hole (only_part (at sp k))))
+    ap rule_item (repeat_read (λ x. true) [] s Question sp k (record { 0 = placeholder_name }) (argument_kind placeholder_names (only_part (at sp (replaced_kind k)))) (argument_replaced placeholder_names (only_part (at sp k))))
 repeat_read_so s (Times n) sp k whole =
-    ap rule_item (repeat_read (λ x. true) [] s (Times n) sp k (record { 0 = hole_name }) (argument_kind hole (only_part (at sp (replaced_kind k)))) (argument_replaced hole (only_part (at sp k))))
+    ap rule_item (repeat_read (λ x. true) [] s (Times n) sp k (record { 0 = placeholder_name }) (argument_kind placeholder_names (only_part (at sp (replaced_kind k)))) (argument_replaced placeholder_names (only_part (at sp k))))
 
-one_read : (macros : List RuleData) (p : Part) → map pending_read (pending_by macros p) ≡ replaced_rules (made_rules comparison macros p)
+one_read : (macros : List RuleData) (p : Part) → map generated_read (generated_by macros p) ≡ replaced_rules (made_rules comparison macros p)
 one_read macros (at s (group ps)) = ap (λ r. rule_item r ∷ []) (sym (group_replaced s ps))
 one_read macros (at s (call n ps)) = call_read_so s n ps (macro_named macros n) (λ d e. named_so macros n d e)
 one_read macros (at s (repeated op (at sp k))) = ap (λ (i : ItemData). i ∷ []) (repeat_read_so s op sp k (unplaced_kind k))
 one_read macros (at s _) = refl
 
-pub pending_are_read : (macros : List RuleData) (ps : List Part) →
-    map pending_read (flat_map (pending_by macros) ps) ≡ replaced_rules (flat_map (made_rules comparison macros) ps)
-pending_are_read macros [] = refl
-pending_are_read macros (p ∷ ps) =
-    map-append pending_read (pending_by macros p) (flat_map (pending_by macros) ps)
-    ∙ ap₂ ◌++◌ (one_read macros p) (pending_are_read macros ps)
+pub generated_are_read : (macros : List RuleData) (ps : List Part) →
+    map generated_read (flat_map (generated_by macros) ps) ≡ replaced_rules (flat_map (made_rules comparison macros) ps)
+generated_are_read macros [] = refl
+generated_are_read macros (p ∷ ps) =
+    map-append generated_read (generated_by macros p) (flat_map (generated_by macros) ps)
+    ∙ ap₂ ◌++◌ (one_read macros p) (generated_are_read macros ps)
     ∙ sym (map-append (λ r. rule_item (replaced_rule r)) (made_rules comparison macros p) (flat_map (made_rules comparison macros) ps))
 
 -- ---- what they reach
 
 module _ (names : List ℕ → Bool) (start : List Part) where
-  abbrev pub ReadsAs : List PendingData → List RuleData → Type 0
-  ReadsAs qs rs = MeetAlike names start (flat_map shown_in_pending qs) (flat_map met_in_pending qs) (flat_map met_in_rule rs)
+  abbrev pub ReadsAs : List GeneratedData → List RuleData → Type 0
+  ReadsAs qs rs = MeetAlike names start (flat_map shown_in_generated qs) (flat_map met_in_generated qs) (flat_map met_in_rule rs)
 
-  one_alike : (q : PendingData) (r : RuleData) → MeetAlike names start (shown_in_pending q) (met_in_pending q) (met_in_rule r) → ReadsAs (q ∷ []) (r ∷ [])
-  one_alike q r h = rw (append-nil (shown_in_pending q), append-nil (met_in_pending q), append-nil (met_in_rule r)) h
+  one_alike : (q : GeneratedData) (r : RuleData) → MeetAlike names start (shown_in_generated q) (met_in_generated q) (met_in_rule r) → ReadsAs (q ∷ []) (r ∷ [])
+  one_alike q r h = rw (append-nil (shown_in_generated q), append-nil (met_in_generated q), append-nil (met_in_rule r)) h
 
   call_met : (s : Span) (n : List ℕ) (ps : Parts) (name : List ℕ) (o : Option RuleData) → were_met names start (all_met ps) ≡ true →
-      ReadsAs (call_pending name s o (all_unplaced ps) (all_replaced ps)) (instance_of comparison s o ps)
+      ReadsAs (call_generated name s o (all_unplaced ps) (all_replaced ps)) (instance_of comparison s o ps)
   call_met s n ps name None were = alike_none names start
   call_met s n ps name (Some d) were =
       let shown = argument_kind d.args (all_replaced ps) in
@@ -116,13 +116,13 @@ module _ (names : List ℕ → Bool) (start : List Part) where
       (call_alike names start comparison s d ps shown (argument_replaced d.args ps) whole (argument_unplaced d.args ps) were))
 
   repeat_met : (s : Span) (op : RepeatOp) (sp : Span) (k : Kind) (name : List ℕ) → were_met names start (met (at sp k)) ≡ true →
-      ReadsAs (repeat_pending name s op (unplaced_kind k) (at sp (replaced_kind k)) ∷ []) (repeat_rule s op (at sp k) ∷ [])
+      ReadsAs (repeat_generated name s op (unplaced_kind k) (at sp (replaced_kind k)) ∷ []) (repeat_rule s op (at sp k) ∷ [])
   repeat_met s op sp k name were =
-      one_alike (repeat_pending name s op (unplaced_kind k) (at sp (replaced_kind k))) (repeat_rule s op (at sp k))
-      (repeat_alike names start s op sp k (record { 0 = hole_name }) (argument_kind hole (only_part (at sp (replaced_kind k)))) (argument_replaced hole (only_part (at sp k)))
-      (argument_kind hole (only_part (at nowhere (unplaced_kind k)))) (argument_unplaced hole (only_part (at sp k))) were)
+      one_alike (repeat_generated name s op (unplaced_kind k) (at sp (replaced_kind k))) (repeat_rule s op (at sp k))
+      (repeat_alike names start s op sp k (record { 0 = placeholder_name }) (argument_kind placeholder_names (only_part (at sp (replaced_kind k)))) (argument_replaced placeholder_names (only_part (at sp k)))
+      (argument_kind placeholder_names (only_part (at nowhere (unplaced_kind k)))) (argument_unplaced placeholder_names (only_part (at sp k))) were)
 
-  part_reads : (macros : List RuleData) (p : Part) → were_met names start (inside p) ≡ true → ReadsAs (pending_by macros p) (made_rules comparison macros p)
+  part_reads : (macros : List RuleData) (p : Part) → were_met names start (inside p) ≡ true → ReadsAs (generated_by macros p) (made_rules comparison macros p)
   part_reads macros (at s (group ps)) h = one_alike (finished_rule (group_rule s (all_replaced ps))) (group_rule s ps) (group_alike names start s ps h)
   part_reads macros (at s (call n ps)) h = call_met s n ps (kind_text (call n (all_replaced ps))) (macro_named macros n) h
   part_reads macros (at s (repeated op (at sp k))) h = repeat_met s op sp k (kind_text (repeated op (at sp (replaced_kind k)))) h
@@ -131,13 +131,13 @@ module _ (names : List ℕ → Bool) (start : List Part) where
   part_reads macros (at s _) h = alike_none names start
 
   pub rules_read : (macros : List RuleData) (ps : List Part) → ((p : Part) → In p ps → were_met names start (inside p) ≡ true) →
-      MeetAlike names start (flat_map shown_in_pending (flat_map (pending_by macros) ps)) (flat_map met_in_pending (flat_map (pending_by macros) ps))
+      MeetAlike names start (flat_map shown_in_generated (flat_map (generated_by macros) ps)) (flat_map met_in_generated (flat_map (generated_by macros) ps))
       (flat_map (λ p. flat_map met_in_rule (made_rules comparison macros p)) ps)
   rules_read macros [] h = alike_none names start
   rules_read macros (p ∷ ps) h =
       let here = part_reads macros p (h p (inl refl)) in
       let rest = rules_read macros ps (λ q i. h q (inr i)) in
-      rw (flat_map-append shown_in_pending (pending_by macros p) (flat_map (pending_by macros) ps), flat_map-append met_in_pending (pending_by macros p) (flat_map (pending_by macros) ps))
+      rw (flat_map-append shown_in_generated (generated_by macros p) (flat_map (generated_by macros) ps), flat_map-append met_in_generated (generated_by macros p) (flat_map (generated_by macros) ps))
       (alike_both names start _ _ _ _ _ _ here rest)
 
 -- ---- what no rule is made of

@@ -1,12 +1,12 @@
-//! Generated rules, which the next round reads (the pending ones).
+//! Generated rules, which the next round reads.
 ghost use Rattle.std.specs.Prelude.{◌≡◌, OnOk, map, length, flat_map};
 ghost use Rattle.lalrpop_norm_tree.specs.Items.{item_view, rule_item, rule_view};
 ghost use Rattle.lalrpop_norm_faults.specs.Faults.{Refuses};
 ghost use Rattle.lalrpop_norm_nodes.specs.Tables.{wholes_in, IsNodeTable, IsCounted, TableMeets, refused_in};
 ghost use Rattle.lalrpop_norm_nodes.specs.Waits.{LeavesWaiting};
-ghost use Rattle.lalrpop_norm_macro_expand_rules.specs.Pending.{met_in_pending, shown_in_pending, pending_read};
-ghost use Rattle.lalrpop_norm_macro_expand_rules.specs.Pending.{filling_view, filled_rule, filled_item, pending_in};
-ghost use Rattle.lalrpop_norm_macro_expand_rules.specs.Pending.{IsFilling, IsReadable, AreReadable};
+ghost use Rattle.lalrpop_norm_macro_expand_rules.specs.Generated.{met_in_generated, shown_in_generated, generated_read};
+ghost use Rattle.lalrpop_norm_macro_expand_rules.specs.Generated.{filling_view, filled_rule, filled_item, generated_in};
+ghost use Rattle.lalrpop_norm_macro_expand_rules.specs.Generated.{IsFilling, IsReadable, AreReadable};
 
 use crate::items::room_for;
 use crate::reading::read_alternatives;
@@ -28,7 +28,7 @@ pub struct Filling<'m> {
 
 /// A generated rule.
 #[derive(Drop)]
-pub struct Pending<'m> {
+pub struct GeneratedRule<'m> {
     /// The rule.
     pub rule: NonterminalData,
     /// The environment, if the rule is still to be read: its symbols are as they are written. If there is none, what is desugared
@@ -46,14 +46,14 @@ fn read_rule(
     requires counted { IsCounted table.old }
     requires readable { IsFilling (wholes_in table.old) filling.now }
     ensures refuses { Refuses result (refused_in table.old
-        (met_in_pending (filled_rule (wholes_in table.old) filling.now (rule_view rule.old)))) }
+        (met_in_generated (filled_rule (wholes_in table.old) filling.now (rule_view rule.old)))) }
     ensures meets { OnOk result (TableMeets table.old table.new
-        (met_in_pending (filled_rule (wholes_in table.old) filling.now (rule_view rule.old)))) }
+        (met_in_generated (filled_rule (wholes_in table.old) filling.now (rule_view rule.old)))) }
     ensures counted { OnOk result (IsCounted table.new) }
     ensures waits { OnOk result (LeavesWaiting table.old table.new
-        (shown_in_pending (filled_rule (wholes_in table.old) filling.now (rule_view rule.old)))) }
+        (shown_in_generated (filled_rule (wholes_in table.old) filling.now (rule_view rule.old)))) }
     ensures value { OnOk result (rule_item (rule_view rule.new)
-        ≡ pending_read (filled_rule (wholes_in table.old) filling.now (rule_view rule.old))) }
+        ≡ generated_read (filled_rule (wholes_in table.old) filling.now (rule_view rule.old))) }
 {
     let environment = Environment {
         numbers: filling.numbers,
@@ -74,14 +74,14 @@ fn read_item(
     requires counted { IsCounted table.old }
     requires readable { IsReadable (wholes_in table.old) filling }
     ensures refuses { Refuses result (refused_in table.old
-        (met_in_pending (filled_item (filling_view (wholes_in table.old) filling.entry) (item_view item.old)))) }
+        (met_in_generated (filled_item (filling_view (wholes_in table.old) filling.entry) (item_view item.old)))) }
     ensures meets { OnOk result (TableMeets table.old table.new
-        (met_in_pending (filled_item (filling_view (wholes_in table.old) filling.entry) (item_view item.old)))) }
+        (met_in_generated (filled_item (filling_view (wholes_in table.old) filling.entry) (item_view item.old)))) }
     ensures counted { OnOk result (IsCounted table.new) }
     ensures waits { OnOk result (LeavesWaiting table.old table.new
-        (shown_in_pending (filled_item (filling_view (wholes_in table.old) filling.entry) (item_view item.old)))) }
+        (shown_in_generated (filled_item (filling_view (wholes_in table.old) filling.entry) (item_view item.old)))) }
     ensures value { OnOk result (item_view item.new
-        ≡ pending_read (filled_item (filling_view (wholes_in table.old) filling.entry) (item_view item.old))) }
+        ≡ generated_read (filled_item (filling_view (wholes_in table.old) filling.entry) (item_view item.old))) }
 {
     let Some(filling) = filling else {
         return Ok(());
@@ -100,7 +100,7 @@ fn read_item(
 /// desugared: a hint for a list, which no contract clause mentions.
 ///
 /// Errors: F37 (`SharedName`) at a symbol whose text is that of another symbol or a declared name; `Memory`.
-pub fn read_pending(
+pub fn read_generated(
     alloc: Global,
     rules: &mut [GrammarItem],
     fillings: Vec<Option<Filling>>,
@@ -112,14 +112,14 @@ pub fn read_pending(
     requires long { length fillings.items ≡ length rules.old }
     requires readable { AreReadable (wholes_in table.old) fillings.items }
     ensures refuses { Refuses result (refused_in table.old
-        (flat_map met_in_pending (pending_in (wholes_in table.old) fillings.entry.items rules.old))) }
+        (flat_map met_in_generated (generated_in (wholes_in table.old) fillings.entry.items rules.old))) }
     ensures meets { OnOk result (TableMeets table.old table.new
-        (flat_map met_in_pending (pending_in (wholes_in table.old) fillings.entry.items rules.old))) }
+        (flat_map met_in_generated (generated_in (wholes_in table.old) fillings.entry.items rules.old))) }
     ensures counted { OnOk result (IsCounted table.new) }
     ensures waits { OnOk result (LeavesWaiting table.old table.new
-        (flat_map shown_in_pending (pending_in (wholes_in table.old) fillings.entry.items rules.old))) }
+        (flat_map shown_in_generated (generated_in (wholes_in table.old) fillings.entry.items rules.old))) }
     ensures value { OnOk result (map item_view rules.new
-        ≡ map pending_read (pending_in (wholes_in table.old) fillings.entry.items rules.old)) }
+        ≡ map generated_read (generated_in (wholes_in table.old) fillings.entry.items rules.old)) }
 {
     for (place, filling) in fillings.into_iter().enumerate() {
         // The next rule is looked at before this one is read: then it comes from memory in time.
