@@ -1,29 +1,27 @@
 -- The terminals that alternatives use, seen by their list.
-use Rattle.std.proofs.Common.{◌≡◌, ◌∙◌, ◌&&◌, List, refl, sym, ap₂}
+use Rattle.std.proofs.Common.{◌≡◌, ◌∙◌, ◌&&◌, List, map, refl, sym, ap₂}
 use Rattle.std.specs.List.{flat_map, list_all}
 use Rattle.std.proofs.Math.Bool.{and-true}
 use Rattle.std.proofs.lemmas.List.Folds.{list_all-append}
 use Rattle.lalrpop_norm_tree_names.specs.declared.names.Span.{Span}
+use Rattle.lalrpop_norm_tree_names.specs.declared.names.TerminalString.{TerminalString}
 use Rattle.lalrpop_norm_tree.specs.Items.{AlternativeData, RuleData, ItemData, match_item, extern_item, intern_item, rule_item, use_item}
-use Rattle.lalrpop_norm_tree.specs.Symbols.{Kind, Part, Parts, terminal, chosen, named, tupled, at, no_parts, part_and}
+use Rattle.lalrpop_norm_tree.specs.Symbols.{Part, Parts, terminal, at, no_parts, part_and}
+use Rattle.lalrpop_norm_tree.specs.Traversal.{unwrapped}
 use Rattle.lalrpop_norm_model.specs.Features.{Features}
 use Rattle.lalrpop_norm_model.specs.PlainRules.{rule_of_item}
-use Rattle.lalrpop_norm_model.specs.Terminals.{terminals_in, terminals_in_parts, terminals_in_rule}
+use Rattle.lalrpop_norm_model.specs.Terminals.{terminal_place, terminals_in, terminals_in_parts, terminals_in_rule}
 use Rattle.lalrpop_norm_is_typed.specs.Terminals.{SourceData, is_terminal}
-use Rattle.lalrpop_norm_is_typed.specs.Used.{is_kind_listed, is_listed, are_listed, is_alternative_listed, is_rule_listed, is_item_listed}
+use Rattle.lalrpop_norm_is_typed.specs.Used.{is_leaf_listed, is_listed, are_listed, is_alternative_listed, is_rule_listed, is_item_listed}
 use Rattle.lalrpop_norm_theory.proofs.ListTests.{all_same, all_flat}
 
 module _ (fs : Features) (s : SourceData) where
-  mutual
-    kind_listed : (span : Span) (k : Kind) → is_kind_listed fs s k ≡ list_all (is_terminal fs s) (terminals_in (at span k))
-    kind_listed span (terminal t) = sym (and-true (is_terminal fs s t))
-    kind_listed span (chosen p) = part_listed p
-    kind_listed span (named n p) = part_listed p
-    kind_listed span (tupled ns p) = part_listed p
-    kind_listed span _ = refl
+  leaf_listed : (p : Part) → is_leaf_listed fs s p ≡ list_all (is_terminal fs s) (map (λ (u : TerminalString × Span). u.0) (terminal_place p))
+  leaf_listed (at span (terminal t)) = sym (and-true (is_terminal fs s t))
+  leaf_listed (at span _) = refl
 
-    part_listed : (p : Part) → is_listed fs s p ≡ list_all (is_terminal fs s) (terminals_in p)
-    part_listed (at span k) = kind_listed span k
+  part_listed : (p : Part) → is_listed fs s p ≡ list_all (is_terminal fs s) (terminals_in p)
+  part_listed p = leaf_listed (unwrapped p)
 
   parts_listed : (ps : Parts) → are_listed fs s ps ≡ list_all (is_terminal fs s) (terminals_in_parts ps)
   parts_listed no_parts = refl

@@ -2,21 +2,19 @@
 use Rattle.std.specs.Prelude.{Bool, true, ◌&&◌}
 use Rattle.std.specs.List.{list_all}
 use Rattle.lalrpop_norm_tree.specs.Items.{AlternativeData, RuleData, ItemData, rule_item}
-use Rattle.lalrpop_norm_tree.specs.Symbols.{Kind, Part, Parts, terminal, no_parts, part_and}
-use Rattle.lalrpop_norm_model.specs.Wrappers.{wrapped_kind, wrapped_part}
+use Rattle.lalrpop_norm_tree.specs.Symbols.{Part, Parts, terminal, at, no_parts, part_and}
+use Rattle.lalrpop_norm_tree.specs.Traversal.{unwrapped}
 use Rattle.lalrpop_norm_model.specs.Features.{Features}
 use Rattle.lalrpop_norm_is_typed.specs.Terminals.{SourceData, is_terminal}
 
-abbrev pub is_leaf_listed : Features → SourceData → Kind → Bool
-is_leaf_listed fs s (terminal t) = is_terminal fs s t
+-- a terminal is one of them
+abbrev pub is_leaf_listed : Features → SourceData → Part → Bool
+is_leaf_listed fs s (at span (terminal t)) = is_terminal fs s t
 is_leaf_listed fs s _ = true
 
--- a symbol that is a terminal under wrappers is one of them
-abbrev pub is_kind_listed : Features → SourceData → Kind → Bool
-is_kind_listed fs s k = is_leaf_listed fs s (wrapped_kind k)
-
+-- so is a symbol that is a terminal under wrappers
 abbrev pub is_listed : Features → SourceData → Part → Bool
-is_listed fs s p = is_leaf_listed fs s (wrapped_part p)
+is_listed fs s p = is_leaf_listed fs s (unwrapped p)
 
 abbrev pub are_listed : Features → SourceData → Parts → Bool
 are_listed fs s no_parts = true

@@ -6,15 +6,15 @@ ghost use Rattle.lalrpop_norm_tree.specs.Items.{grammar_view};
 ghost use Rattle.lalrpop_norm_model.specs.Expanded.{IsTyped};
 ghost use Rattle.lalrpop_norm_repr.specs.Tables.{type_table};
 ghost use Rattle.lalrpop_norm_lower_steps.specs.StartSymbols.{types_by_name};
-ghost use Rattle.lalrpop_norm_session.specs.Sessions.{features_view};
+ghost use Rattle.lalrpop_norm_common.specs.Sessions.{features_view};
 ghost use Rattle.lalrpop_norm_is_typed.specs.Whole.{are_terminals_listed, is_typed_by};
 
 mod rules;
 mod terminals;
 mod used;
 
+use lalrpop_norm_common::Session;
 use lalrpop_norm_repr::grammar::repr::Types;
-use lalrpop_norm_session::Session;
 use lalrpop_norm_tree::grammar::parse_tree::Grammar;
 use rules::are_rules_typed;
 use terminals::{are_terminals_distinct, source_of};

@@ -3,12 +3,12 @@ ghost use Rattle.std.specs.Prelude.{◌≡◌, map};
 ghost use Rattle.lalrpop_norm_tree.specs.Items.{conversion_view, grammar_view};
 ghost use Rattle.lalrpop_norm_model.specs.Terminals.{same_terminal};
 ghost use Rattle.lalrpop_norm_model.specs.TerminalTypes.{intern_entries};
-ghost use Rattle.lalrpop_norm_session.specs.Sessions.{features_view};
+ghost use Rattle.lalrpop_norm_common.specs.Sessions.{features_view};
 ghost use Rattle.lalrpop_norm_is_typed.specs.Terminals.{source_view, source_of, is_terminal, are_terminals_distinct};
 ghost use Rattle.lalrpop_norm_is_typed.specs.Terminals.{are_conversions_distinct, is_converted_again, is_converted, is_conversion_of};
 ghost use Rattle.lalrpop_norm_is_typed.specs.Terminals.{are_entries_distinct, is_entered_again, is_entered, is_mapping_to};
 
-use lalrpop_norm_session::{Session, cfg_active};
+use lalrpop_norm_common::{Session, cfg_active};
 use lalrpop_norm_tree::grammar::parse_tree::{
     Conversion, Grammar, MatchEntry, MatchMapping, TerminalString,
 };

@@ -2,14 +2,14 @@
 ghost use Rattle.std.specs.Prelude.{◌≡◌, map};
 ghost use Rattle.std.specs.List.{list_all};
 ghost use Rattle.lalrpop_norm_tree.specs.Items.{alternative_view, item_view};
-ghost use Rattle.lalrpop_norm_tree.specs.Symbols.{kind_view, parts_view, symbol_view};
-ghost use Rattle.lalrpop_norm_session.specs.Sessions.{features_view};
+ghost use Rattle.lalrpop_norm_tree.specs.Symbols.{parts_view, symbol_view};
+ghost use Rattle.lalrpop_norm_common.specs.Sessions.{features_view};
 ghost use Rattle.lalrpop_norm_is_typed.specs.Terminals.{source_view};
-ghost use Rattle.lalrpop_norm_is_typed.specs.Used.{is_kind_listed, is_listed, are_listed, is_alternative_listed, is_item_listed};
+ghost use Rattle.lalrpop_norm_is_typed.specs.Used.{is_listed, are_listed, is_alternative_listed, is_item_listed};
 
 use crate::terminals::{Source, is_terminal};
-use lalrpop_norm_session::Session;
-use lalrpop_norm_tree::grammar::parse_tree::{Alternative, GrammarItem, Symbol, SymbolKind};
+use lalrpop_norm_common::Session;
+use lalrpop_norm_tree::grammar::parse_tree::{Alternative, GrammarItem, GrammarSymbol, Symbol};
 
 /// Whether each terminal in an alternative is one of the grammar's.
 pub(crate) fn are_items_listed<L>(
@@ -69,30 +69,12 @@ fn are_listed<L>(session: &Session<L>, source: Source, symbols: &[Symbol]) -> bo
     true
 }
 
-#[cycle(symbol)]
+/// A terminal under wrappers is one of the grammar's.
 fn is_listed<L>(session: &Session<L>, source: Source, symbol: &Symbol) -> bool
     ensures { result ≡ is_listed (features_view session.now.features) (source_view source.entry) (symbol_view symbol.now) }
 {
-    is_kind_listed(session, source, &symbol.kind)
-}
-
-/// A terminal under wrappers is one of the grammar's.
-#[cycle(symbol)]
-fn is_kind_listed<L>(session: &Session<L>, source: Source, kind: &SymbolKind) -> bool
-    ensures { result ≡ is_kind_listed (features_view session.now.features) (source_view source.entry) (kind_view kind.now) }
-{
-    match kind {
-        SymbolKind::Terminal(terminal) => is_terminal(session, source, terminal),
-        SymbolKind::Choose(inner) => is_listed(session, source, inner),
-        SymbolKind::Name(_, inner) => is_listed(session, source, inner),
-        SymbolKind::Tuple(_, inner) => is_listed(session, source, inner),
-        SymbolKind::Expr(_)
-        | SymbolKind::AmbiguousId(_)
-        | SymbolKind::Nonterminal(_)
-        | SymbolKind::Macro(_)
-        | SymbolKind::Repeat(_)
-        | SymbolKind::Lookahead
-        | SymbolKind::Lookbehind
-        | SymbolKind::Error => true,
+    match symbol.unwrapped().kind.as_grammar_symbol() {
+        Some(GrammarSymbol::Terminal(terminal)) => is_terminal(session, source, terminal),
+        Some(GrammarSymbol::Nonterminal(_) | GrammarSymbol::Error) | None => true,
     }
 }

@@ -7,7 +7,7 @@ use Rattle.std.proofs.lemmas.List.Elements.{filter-append, filter_agree}
 use Rattle.std.proofs.lemmas.Slice.Eq.{bytes_eq-Decides}
 use Rattle.lalrpop_norm_tree.specs.Symbols.{ArgumentPattern, Part, Parts, no_parts, part_and}
 use Rattle.lalrpop_norm_model.specs.MadeRules.{names_value, some_name_value}
-use Rattle.lalrpop_norm_session.specs.Values.{is_chosen, has_chosen}
+use Rattle.lalrpop_norm_common.specs.Values.{is_chosen, has_chosen}
 use Rattle.lalrpop_norm_lower.specs.Sources.{source_name, plain_name}
 use Rattle.lalrpop_norm_lower.specs.Naming.{is_source, source_pattern, names_from, source_names, patterns_from, argument_patterns}
 use Rattle.lalrpop_norm_lower.specs.Sourced.{AreSourcesOf}

@@ -3,7 +3,7 @@ pub mod ArgumentLemmas
 pub mod TableLemmas
 pub mod KeyLaws
 pub mod ClauseLemmas
-pub mod TypingLemmas
+pub mod StartTypeLemmas
 pub mod TokenLemmas
 pub mod ActionLemmas
 pub mod ApartLemmas
@@ -14,6 +14,7 @@ pub mod SourceLemmas
 pub mod FaultCounts
 pub mod BodyLemmas
 pub mod TokenCounts
+pub mod WrappedLemmas
 pub mod SymbolCases
 pub mod MadeLemmas
 pub mod RowLemmas

@@ -45,7 +45,7 @@ use Rattle.lalrpop_norm_lower.proofs.KeyLaws.{names_decide, name_table, terminal
 use Rattle.lalrpop_norm_lower.proofs.SymbolCases.{parts_by, recovers}
 use Rattle.lalrpop_norm_lower.proofs.TokenCounts.{tokens_read, terminals_same, error_is_none, all_distinct, tested, in_contains}
 use Rattle.lalrpop_norm_lower.proofs.TokenLemmas.{numbers_of_places}
-use Rattle.lalrpop_norm_lower.proofs.TypingLemmas.{AreTyped, some_back, start_types_added, kept_type}
+use Rattle.lalrpop_norm_lower.proofs.StartTypeLemmas.{AreTyped, some_back, start_types_added, kept_type}
 
 -- ---- lists
 

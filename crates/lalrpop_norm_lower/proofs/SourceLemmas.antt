@@ -10,16 +10,16 @@ use Rattle.lalrpop_norm_tree_names.specs.Texts.{joined}
 use Rattle.lalrpop_norm_faults.specs.Faults.{fault_if}
 use Rattle.lalrpop_norm_faults.specs.declared.kind.FaultKind.TheVariants.{Placeholders}
 use Rattle.lalrpop_norm_lower_steps.specs.Counts.{count_faults}
-use Rattle.lalrpop_norm_session.specs.ExprSymbols.{Placed, NamedPart, named_parts, chosen_parts, all_parts, SymbolsSeen, with_names, without_names, with_any, analyzed_symbols}
+use Rattle.lalrpop_norm_common.specs.ExprSymbols.{Placed, NamedPart, named_parts, chosen_parts, all_parts, SymbolsSeen, with_names, without_names, with_any, analyzed_symbols}
 use Rattle.lalrpop_norm_model.specs.LoweringFaults.{slots, code_in, code_faults, span_over}
 use Rattle.lalrpop_norm_model.specs.MadeRules.{some_name_value, if_any}
 use Rattle.lalrpop_norm_model.specs.Sources.{Source, chosen_sources, all_sources, sources}
 use Rattle.lalrpop_norm_lower.specs.Arguments.{in_slots}
 use Rattle.lalrpop_norm_lower_steps.specs.Code.{sources_code, absent_code, written_code}
 use Rattle.lalrpop_norm_lower_steps.proofs.SlotLemmas.{unfilled}
-use Rattle.lalrpop_norm_session.specs.Braces.{around_slot}
-use Rattle.lalrpop_norm_session.specs.Values.{has_chosen}
-use Rattle.lalrpop_norm_session.proofs.SymbolLemmas.{no_named}
+use Rattle.lalrpop_norm_common.specs.Braces.{around_slot}
+use Rattle.lalrpop_norm_common.specs.Values.{has_chosen}
+use Rattle.lalrpop_norm_common.proofs.SymbolLemmas.{no_named}
 use Rattle.lalrpop_norm_lower.specs.Made.{made_code}
 use Rattle.lalrpop_norm_lower.specs.Naming.{names_from, source_names}
 use Rattle.lalrpop_norm_faults.proofs.FaultLemmas.{not_fault}

@@ -1,19 +1,21 @@
 -- What holds of the terminals and nonterminals of plain symbols holds of what they are lowered to.
-use Rattle.std.proofs.Common.{◌≡◌, ◌∙◌, ℕ, Bool, true, List, [], ◌∷◌, refl, sym, ap, inl, inr}
+use Rattle.std.proofs.Common.{◌≡◌, ◌∙◌, ℕ, Bool, true, List, [], ◌∷◌, map, refl, sym, ap, subst, inl, inr}
 use Rattle.std.specs.List.{list_any, AllByRecursion}
 use Rattle.lalrpop_norm_tree_names.specs.declared.names.Span.{Span}
 use Rattle.lalrpop_norm_tree_names.specs.declared.names.TerminalString.{TerminalString}
 use Rattle.lalrpop_norm_tree_names.specs.declared.names.TerminalString.TheVariants as terminal_string
 use Rattle.lalrpop_norm_tree.specs.Items.{AlternativeData, RuleData}
-use Rattle.lalrpop_norm_tree.specs.Symbols.{Kind, terminal, nonterminal, chosen, named, tupled, error_terminal, Part, at, Parts, no_parts, part_and}
+use Rattle.lalrpop_norm_tree.specs.Symbols.{terminal, nonterminal, error_terminal, Part, at, Parts, no_parts, part_and}
+use Rattle.lalrpop_norm_tree.specs.Traversal.{unwrapped}
 use Rattle.lalrpop_norm_theory.specs.Rounds.{In}
 use Rattle.lalrpop_norm_theory.proofs.RoundsLemmas.{in_left, in_right}
-use Rattle.lalrpop_norm_model.specs.Expanded.{is_plain_kind, is_plain, are_plain, names_in_kind, names_in, names_in_parts}
-use Rattle.lalrpop_norm_model.specs.Terminals.{terminals_in, terminals_in_parts}
+use Rattle.lalrpop_norm_model.specs.Expanded.{is_plain_leaf, any_name, is_plain, are_plain, leaf_names, names_in, names_in_parts}
+use Rattle.lalrpop_norm_model.specs.Terminals.{terminal_place, terminals_in, terminals_in_parts}
 use Rattle.lalrpop_norm_repr.specs.declared.symbol.Symbol.{Symbol}
 use Rattle.lalrpop_norm_repr.specs.declared.symbol.Symbol.TheVariants.{Nonterminal, Terminal}
-use Rattle.lalrpop_norm_lower.specs.Carried.{is_error_kind, is_error, any_error, uses_recovery}
-use Rattle.lalrpop_norm_lower.specs.Lowering.{lowered_kind, lowered_symbol, lowered_symbols}
+use Rattle.lalrpop_norm_lower.specs.Carried.{is_error_leaf, is_error, any_error, uses_recovery}
+use Rattle.lalrpop_norm_lower.specs.Lowering.{lowered_leaf, lowered_symbol, lowered_symbols}
+use Rattle.lalrpop_norm_lower.proofs.WrappedLemmas.{kind_at, wrapped_at}
 use Rattle.lalrpop_norm_theory.proofs.BoolLemmas.{both_true, or_left, or_right}
 
 abbrev pub AtNames : (Symbol → Type 0) → List (List ℕ) → Type 0
@@ -25,18 +27,15 @@ AtTerminals P ts = (t : TerminalString) → In t ts → P (Terminal t)
 abbrev pub AtError : (Symbol → Type 0) → Bool → Type 0
 AtError P b = b ≡ true → P (Terminal terminal_string.Error)
 
-mutual
-  pub kind_by : (P : Symbol → Type 0) (s : Span) (k : Kind) → is_plain_kind k ≡ true → AtNames P (names_in_kind k) → AtTerminals P (terminals_in (at s k)) → AtError P (is_error_kind k) → P (lowered_kind k)
-  kind_by P s (terminal t) h ns ts e = ts t (inl refl)
-  kind_by P s (nonterminal n) h ns ts e = ns n (inl refl)
-  kind_by P s error_terminal h ns ts e = e refl
-  kind_by P s (chosen p) h ns ts e = part_by P p h ns ts e
-  kind_by P s (named n p) h ns ts e = part_by P p h ns ts e
-  kind_by P s (tupled n p) h ns ts e = part_by P p h ns ts e
-  kind_by P s _ h ns ts e = cc
+leaf_by : (P : Symbol → Type 0) (p : Part) → is_plain_leaf any_name (kind_at p) ≡ true → AtNames P (leaf_names (kind_at p)) → AtTerminals P (map (λ (u : TerminalString × Span). u.0) (terminal_place p)) → AtError P (is_error_leaf p) → P (lowered_leaf (kind_at p))
+leaf_by P (at s (terminal t)) h ns ts e = ts t (inl refl)
+leaf_by P (at s (nonterminal n)) h ns ts e = ns n (inl refl)
+leaf_by P (at s error_terminal) h ns ts e = e refl
+leaf_by P (at s _) h ns ts e = cc
 
-  pub part_by : (P : Symbol → Type 0) (p : Part) → is_plain p ≡ true → AtNames P (names_in p) → AtTerminals P (terminals_in p) → AtError P (is_error p) → P (lowered_symbol p)
-  part_by P (at s k) h ns ts e = kind_by P s k h ns ts e
+part_by : (P : Symbol → Type 0) (p : Part) → is_plain p ≡ true → AtNames P (names_in p) → AtTerminals P (terminals_in p) → AtError P (is_error p) → P (lowered_symbol p)
+part_by P p h ns ts e =
+    subst (λ k. is_plain_leaf any_name k ≡ true → AtNames P (leaf_names k) → P (lowered_leaf k)) (sym (wrapped_at p)) (λ h ns. leaf_by P (unwrapped p) h ns ts e) h ns
 
 pub parts_by : (P : Symbol → Type 0) (ps : Parts) → are_plain ps ≡ true → AtNames P (names_in_parts ps) → AtTerminals P (terminals_in_parts ps) → AtError P (any_error ps) → AllByRecursion P (lowered_symbols ps)
 parts_by P no_parts h ns ts e = tt

@@ -1,13 +1,14 @@
 -- The arguments of an action code: which symbols give it values, and under which names. All of it by indices, which count
 -- from 0. How they are put into the action code is `IsFilled`.
 use Rattle.std.specs.Prelude.{ℕ, Bool, true, List, [], ◌∷◌, length, map, filter, take}
-use Rattle.std.specs.Prelude.{Option, Some, None, unwrap_or, if◌then◌else◌, codes}
+use Rattle.std.specs.Prelude.{Option, option_map, unwrap_or, if◌then◌else◌, codes}
 use Rattle.std.specs.List.{list_any, enumerate_from}
-use Rattle.lalrpop_norm_tree.specs.Symbols.{ArgumentPattern, one_name, several, Kind, named, tupled, Part, at, Parts, no_parts}
+use Rattle.lalrpop_norm_tree.specs.Symbols.{ArgumentPattern, one_name, several, Kind, Part, at, Parts, no_parts}
 use Rattle.lalrpop_norm_tree.specs.Symbols.{part_and}
+use Rattle.lalrpop_norm_tree.specs.Accessors.{binding_of}
 use Rattle.lalrpop_norm_tree.specs.SymbolTexts.{tuple_text}
 use Rattle.lalrpop_norm_model.specs.MadeRules.{names_value}
-use Rattle.lalrpop_norm_session.specs.Values.{is_chosen}
+use Rattle.lalrpop_norm_common.specs.Values.{is_chosen}
 use Rattle.lalrpop_norm_lower.specs.Sources.{source_name, plain_name}
 pub use Rattle.lalrpop_norm_lower_steps.specs.Filled.{in_slots, IsFilled}
 
@@ -20,9 +21,7 @@ part_list (part_and p ps) = p ∷ part_list ps
 
 -- the pattern that a named or tuple symbol is written with
 abbrev pub kind_pattern : Kind → Option ArgumentPattern
-kind_pattern (named n p) = Some (one_name n)
-kind_pattern (tupled ns p) = Some (several ns)
-kind_pattern _ = None
+kind_pattern k = option_map (λ b. b.0) (binding_of k)
 
 abbrev pub written_pattern : Part → Option ArgumentPattern
 written_pattern (at s k) = kind_pattern k

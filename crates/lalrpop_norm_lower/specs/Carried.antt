@@ -12,7 +12,8 @@ use Rattle.lalrpop_norm_tree.specs.LoweredTypes.{repr_of, named_path}
 use Rattle.lalrpop_norm_tree_patterns.specs.Patterns.{PatternData, pattern_at, tuple_struct, pattern_and, no_patterns, number}
 use Rattle.lalrpop_norm_tree_patterns.specs.Patterns.{chosen as chosen_type}
 use Rattle.lalrpop_norm_tree_parts.specs.Reprs.{ReprData, of_lifetime, input_str, LoweredClause, has_bound}
-use Rattle.lalrpop_norm_tree.specs.Symbols.{Kind, chosen, named, tupled, error_terminal, Part, at, Parts, no_parts, part_and}
+use Rattle.lalrpop_norm_tree.specs.Symbols.{error_terminal, Part, at, Parts, no_parts, part_and}
+use Rattle.lalrpop_norm_tree.specs.Traversal.{unwrapped}
 use Rattle.lalrpop_norm_tree.specs.Types.{TypeData, ParameterData}
 use Rattle.lalrpop_norm_repr.specs.Lowered.{LoweredParameter}
 use Rattle.lalrpop_norm_model.specs.Scopes.{conversions_in}
@@ -50,17 +51,13 @@ tokens_of g = flat_map (item_tokens g.span) g.items
 
 -- ---- `!`
 
-abbrev mutual
-  pub is_error_kind : Kind → Bool
-  is_error_kind error_terminal = true
-  is_error_kind (chosen p) = is_error p
-  is_error_kind (named n p) = is_error p
-  is_error_kind (tupled ns p) = is_error p
-  is_error_kind _ = false
+abbrev pub is_error_leaf : Part → Bool
+is_error_leaf (at s error_terminal) = true
+is_error_leaf _ = false
 
-  -- `!`, also as a selected, named or tuple symbol
-  pub is_error : Part → Bool
-  is_error (at s k) = is_error_kind k
+-- `!`, also as a selected, named or tuple symbol
+abbrev pub is_error : Part → Bool
+is_error p = is_error_leaf (unwrapped p)
 
 abbrev pub any_error : Parts → Bool
 any_error no_parts = false

@@ -2,7 +2,7 @@ pub mod Sources
 pub mod Arguments
 pub mod Naming
 pub mod Lowering
-pub mod Typing
+pub mod StartTypes
 pub mod Numbered
 pub mod State
 pub mod Starts
@@ -12,5 +12,5 @@ pub mod Shape
 pub mod Made
 pub mod Active
 pub mod CarriedOver
-pub mod Produced
+pub mod LoweredRules
 pub mod Sourced

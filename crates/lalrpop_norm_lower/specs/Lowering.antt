@@ -9,8 +9,8 @@ use Rattle.lalrpop_norm_tree_names.specs.declared.names.TerminalString.TheVarian
 use Rattle.lalrpop_norm_tree.specs.Accessors.{rule_of, is_public}
 use Rattle.lalrpop_norm_tree.specs.Items.{AlternativeData, RuleData, ItemData}
 use Rattle.lalrpop_norm_tree_parts.specs.Reprs.{ReprData, unit_type}
-use Rattle.lalrpop_norm_tree.specs.Symbols.{Kind, terminal, nonterminal, chosen, named, tupled, error_terminal}
-use Rattle.lalrpop_norm_tree.specs.Symbols.{Part, at, Parts, no_parts, part_and}
+use Rattle.lalrpop_norm_tree.specs.Symbols.{Kind, terminal, nonterminal, error_terminal, Part, Parts, no_parts, part_and}
+use Rattle.lalrpop_norm_tree.specs.Traversal.{wrapped_kind, wrapped_part}
 use Rattle.lalrpop_norm_tree.specs.SymbolTexts.{kind_text}
 use Rattle.lalrpop_norm_repr.specs.declared.action.ActionFn.{ActionFn}
 use Rattle.lalrpop_norm_repr.specs.declared.symbol.Symbol.{Symbol}
@@ -33,20 +33,19 @@ public_rules_in (r ∷ rs) = if is_public r.visibility then r ∷ public_rules_i
 
 -- ---- symbols and types
 
--- a terminal stays as it is, `!` is the error terminal, a selected, named or tuple symbol is what is in it, and any
--- other symbol is the nonterminal of its text
-abbrev mutual
-  pub lowered_kind : Kind → Symbol
-  lowered_kind (terminal t) = Terminal t
-  lowered_kind (nonterminal n) = Nonterminal (record { 0 = n })
-  lowered_kind error_terminal = Terminal terminal_string.Error
-  lowered_kind (chosen p) = lowered_symbol p
-  lowered_kind (named n p) = lowered_symbol p
-  lowered_kind (tupled t p) = lowered_symbol p
-  lowered_kind k = Nonterminal (record { 0 = kind_text k })
+-- a terminal stays as it is, `!` is the error terminal, and any other symbol is the nonterminal of its text
+abbrev pub lowered_leaf : Kind → Symbol
+lowered_leaf (terminal t) = Terminal t
+lowered_leaf (nonterminal n) = Nonterminal (record { 0 = n })
+lowered_leaf error_terminal = Terminal terminal_string.Error
+lowered_leaf k = Nonterminal (record { 0 = kind_text k })
 
-  pub lowered_symbol : Part → Symbol
-  lowered_symbol (at s k) = lowered_kind k
+-- a selected, named or tuple symbol is what is in it
+abbrev pub lowered_kind : Kind → Symbol
+lowered_kind k = lowered_leaf (wrapped_kind k)
+
+abbrev pub lowered_symbol : Part → Symbol
+lowered_symbol p = lowered_leaf (wrapped_part p)
 
 abbrev pub lowered_symbols : Parts → List Symbol
 lowered_symbols no_parts = []

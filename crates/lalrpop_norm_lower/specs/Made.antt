@@ -30,7 +30,7 @@ use Rattle.lalrpop_norm_lower.specs.Lowering.{rules_among, public_rules_in, star
 use Rattle.lalrpop_norm_lower.specs.Lowering.{is_fallible, rule_type, start_names, start_rows, rule_rows, sorted_onto}
 use Rattle.lalrpop_norm_lower.specs.Naming.{argument_patterns, source_names}
 use Rattle.lalrpop_norm_lower_steps.specs.Slots.{filled_code}
-use Rattle.lalrpop_norm_lower.specs.Typing.{start_types, AddsTypes}
+use Rattle.lalrpop_norm_lower.specs.StartTypes.{start_types, AddsTypes}
 pub use Rattle.lalrpop_norm_lower_steps.specs.StartSymbols.{types_by_name}
 
 -- ---- actions

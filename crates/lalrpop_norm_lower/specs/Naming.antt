@@ -2,7 +2,7 @@
 use Rattle.std.specs.Prelude.{ℕ, ◌+◌, Bool, true, List, [], ◌∷◌, unwrap_or, if◌then◌else◌, codes}
 use Rattle.lalrpop_norm_tree.specs.Symbols.{ArgumentPattern, Part, Parts, no_parts, part_and}
 use Rattle.lalrpop_norm_model.specs.MadeRules.{names_value, some_name_value}
-use Rattle.lalrpop_norm_session.specs.Values.{is_chosen, has_chosen}
+use Rattle.lalrpop_norm_common.specs.Values.{is_chosen, has_chosen}
 use Rattle.lalrpop_norm_lower.specs.Arguments.{written_pattern, name_given}
 use Rattle.lalrpop_norm_lower.specs.Sources.{source_name, plain_name}
 

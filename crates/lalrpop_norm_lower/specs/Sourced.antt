@@ -2,7 +2,7 @@
 use Rattle.std.specs.Prelude.{◌≡◌, ◌&&◌, not}
 use Rattle.lalrpop_norm_tree.specs.Symbols.{Parts}
 use Rattle.lalrpop_norm_model.specs.MadeRules.{some_name_value}
-use Rattle.lalrpop_norm_session.specs.Values.{has_chosen}
+use Rattle.lalrpop_norm_common.specs.Values.{has_chosen}
 use Rattle.lalrpop_norm_lower.specs.declared.arguments.Sources.{Sources}
 
 -- computed for these symbols

@@ -4,8 +4,7 @@ ghost use Rattle.lalrpop_norm_tree_parts.specs.Reprs.{repr_view};
 ghost use Rattle.lalrpop_norm_lower.specs.Lowering.{type_or_unit};
 ghost use Rattle.lalrpop_norm_lower.specs.State.{table_by_number};
 
-use crate::numbered::NumberedTypes;
-use crate::typing::unit_type;
+use crate::numbered::{NumberedTypes, unit_type};
 use lalrpop_norm_repr::grammar::repr::{Symbol, TypeRepr};
 use lalrpop_norm_tree::grammar::parse_tree::NoMemory;
 use std::alloc::Global;

@@ -6,10 +6,8 @@ ghost use Rattle.lalrpop_norm_lower.specs.Sources.{source_name, plain_name};
 ghost use Rattle.lalrpop_norm_lower.specs.Sourced.{AreSourcesOf};
 ghost use Rattle.lalrpop_norm_lower.specs.Naming.{is_source, source_pattern, argument_patterns, source_names};
 
-use lalrpop_norm_session::norm_util::{has_chosen, has_name_value, is_chosen, names_value};
-use lalrpop_norm_tree::grammar::parse_tree::{
-    ArgPattern, Atom, Name, NoMemory, Symbol, SymbolKind,
-};
+use lalrpop_norm_common::norm_util::{has_chosen, has_name_value, is_chosen, names_value};
+use lalrpop_norm_tree::grammar::parse_tree::{ArgPattern, Atom, Binding, Name, NoMemory, Symbol};
 use lalrpop_norm_tree_parts::walk::add;
 use std::alloc::Global;
 
@@ -138,22 +136,13 @@ fn name_of_source(
 ) -> Result<Atom, NoMemory>
     ensures { IfOk result (λ n. n ≡ name_given (source_pattern prefix.now number (symbol_view symbol.now))) }
 {
-    match &symbol.kind {
-        SymbolKind::Name(name, _) => Ok(name.name.clone()?),
-        SymbolKind::Tuple(names, _) => {
+    match symbol.kind.as_bound() {
+        Some((Binding::Name(name), _)) => Ok(name.name.clone()?),
+        Some((Binding::Tuple(names), _)) => {
             let text = names.to_string(alloc)?;
             Atom::new(alloc, text.as_str())
         }
-        SymbolKind::Expr(_)
-        | SymbolKind::AmbiguousId(_)
-        | SymbolKind::Terminal(_)
-        | SymbolKind::Nonterminal(_)
-        | SymbolKind::Macro(_)
-        | SymbolKind::Repeat(_)
-        | SymbolKind::Choose(_)
-        | SymbolKind::Lookahead
-        | SymbolKind::Lookbehind
-        | SymbolKind::Error => source_name(alloc, prefix, number),
+        None => source_name(alloc, prefix, number),
     }
 }
 
@@ -166,19 +155,9 @@ fn source_pattern(
 ) -> Result<ArgPattern, NoMemory>
     ensures { IfOk result (λ p. argument_pattern_view p ≡ source_pattern prefix.now number (symbol_view symbol.now)) }
 {
-    match &symbol.kind {
-        SymbolKind::Name(name, _) => Ok(ArgPattern::Name(name.clone()?)),
-        SymbolKind::Tuple(names, _) => Ok(ArgPattern::Tuple(names.clone()?)),
-        SymbolKind::Expr(_)
-        | SymbolKind::AmbiguousId(_)
-        | SymbolKind::Terminal(_)
-        | SymbolKind::Nonterminal(_)
-        | SymbolKind::Macro(_)
-        | SymbolKind::Repeat(_)
-        | SymbolKind::Choose(_)
-        | SymbolKind::Lookahead
-        | SymbolKind::Lookbehind
-        | SymbolKind::Error => Ok(plain_name(source_name(alloc, prefix, number)?)),
+    match symbol.kind.as_bound() {
+        Some((binding, _)) => binding.to_pattern(),
+        None => Ok(plain_name(source_name(alloc, prefix, number)?)),
     }
 }
 

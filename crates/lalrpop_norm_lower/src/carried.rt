@@ -1,15 +1,15 @@
 //! What a lowered grammar has of the written one, but for rules.
 ghost use Rattle.std.specs.Prelude.{◌≡◌, true, IfOk};
 ghost use Rattle.lalrpop_norm_tree.specs.Items.{grammar_view};
-ghost use Rattle.lalrpop_norm_session.specs.Sessions.{features_view};
+ghost use Rattle.lalrpop_norm_common.specs.Sessions.{features_view};
 ghost use Rattle.lalrpop_norm_model.specs.Expanded.{all_known};
 ghost use Rattle.lalrpop_norm_lower.specs.CarriedOver.{IsCarriedOver};
 
 use crate::head::{Head, Signature, head_of, signature_of};
 use crate::tokens::{Tokens, tokens_of};
+use lalrpop_norm_common::Session;
 use lalrpop_norm_lower_steps::algorithm::algorithm_of;
 use lalrpop_norm_repr::grammar::repr::Algorithm;
-use lalrpop_norm_session::Session;
 use lalrpop_norm_tree::grammar::parse_tree::{Grammar, NoMemory};
 use std::alloc::Global;
 

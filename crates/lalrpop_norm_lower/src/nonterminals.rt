@@ -14,17 +14,16 @@ ghost use Rattle.lalrpop_norm_lower.specs.Made.{made_rules_faults, made_starts, 
 ghost use Rattle.lalrpop_norm_lower.specs.State.{state_types, state_actions, state_nonterminals};
 ghost use Rattle.lalrpop_norm_lower.specs.State.{action_for, rules_in, IsTypeAt, AreTypesFrom};
 ghost use Rattle.lalrpop_norm_lower.specs.Starts.{start_rule, start_typed};
-ghost use Rattle.lalrpop_norm_lower.specs.Typing.{start_types};
+ghost use Rattle.lalrpop_norm_lower.specs.StartTypes.{start_types};
 
 use crate::alternatives::{lower_alternative, lower_alternatives};
-use crate::numbered::NumberedTypes;
+use crate::numbered::{NumberedTypes, unit_type};
 use crate::recovery::some_error;
 use crate::starts::{Start, insert, rule_type};
 use crate::state::LowerState;
-use crate::typing::unit_type;
 use lalrpop_norm_faults::NormResult;
 use lalrpop_norm_lower_steps::refusals::check_start;
-use lalrpop_norm_lower_steps::starts::{start_alternative, start_data};
+use lalrpop_norm_lower_steps::start_symbols::{start_alternative, start_data};
 use lalrpop_norm_repr::grammar::repr::{NonterminalData, Production};
 use lalrpop_norm_tree::grammar::parse_tree as pt;
 use lalrpop_norm_tree::grammar::parse_tree::{Alternative, GrammarItem, NoMemory, Visibility};

@@ -1,7 +1,7 @@
 //! The types of rules, found by the numbers of their names.
 ghost use Rattle.std.specs.Prelude.{◌≡◌, ◌<◌, [], ◌∷◌, ◌++◌, IfOk, OnOk, Some, length, map, option_map, slice_get, vec_len};
 ghost use Rattle.lalrpop_norm_tree.specs.Items.{item_view};
-ghost use Rattle.lalrpop_norm_tree_parts.specs.Reprs.{repr_view};
+ghost use Rattle.lalrpop_norm_tree_parts.specs.Reprs.{repr_view, unit_type};
 ghost use Rattle.lalrpop_norm_theory.specs.Rounds.{IsDistinct};
 ghost use Rattle.lalrpop_norm_names.specs.Numbers.{IsNumbering};
 ghost use Rattle.lalrpop_norm_repr.specs.Tables.{type_table, type_of};
@@ -138,4 +138,11 @@ fn count_rules(items: &[GrammarItem]) -> usize
         }
     }
     count
+}
+
+/// The unit type: of a rule that has none.
+pub(crate) fn unit_type(alloc: Global) -> TypeRepr
+    ensures { repr_view result ≡ unit_type }
+{
+    TypeRepr::Tuple(Vec::new(alloc))
 }

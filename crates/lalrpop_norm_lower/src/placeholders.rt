@@ -4,10 +4,10 @@ ghost use Rattle.lalrpop_norm_faults.specs.Faults.{Refuses};
 ghost use Rattle.lalrpop_norm_tree.specs.Items.{action_view, alternative_view};
 ghost use Rattle.lalrpop_norm_model.specs.LoweringFaults.{code_in, code_faults};
 
+use lalrpop_norm_common::norm_util::{Symbols, analyze_expr};
 use lalrpop_norm_faults::NormResult;
 use lalrpop_norm_lower_steps::placeholders::slots;
 use lalrpop_norm_lower_steps::refusals::check_count;
-use lalrpop_norm_session::norm_util::{Symbols, analyze_expr};
 use lalrpop_norm_tree::grammar::parse_tree::{ActionKind, Alternative};
 use std::alloc::Global;
 

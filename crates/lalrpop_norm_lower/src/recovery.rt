@@ -2,10 +2,10 @@
 ghost use Rattle.std.specs.Prelude.{◌≡◌, map};
 ghost use Rattle.std.specs.List.{list_any};
 ghost use Rattle.lalrpop_norm_tree.specs.Items.{alternative_view};
-ghost use Rattle.lalrpop_norm_tree.specs.Symbols.{kind_view, parts_view, symbol_view};
-ghost use Rattle.lalrpop_norm_lower.specs.Carried.{is_error_kind, is_error, any_error};
+ghost use Rattle.lalrpop_norm_tree.specs.Symbols.{parts_view, symbol_view};
+ghost use Rattle.lalrpop_norm_lower.specs.Carried.{is_error, any_error};
 
-use lalrpop_norm_tree::grammar::parse_tree::{Alternative, Symbol, SymbolKind};
+use lalrpop_norm_tree::grammar::parse_tree::{Alternative, GrammarSymbol, Symbol};
 
 /// Whether `!` occurs in one of the alternatives.
 pub(crate) fn some_error(alternatives: &[Alternative]) -> bool
@@ -30,29 +30,12 @@ fn any_error(symbols: &[Symbol]) -> bool
     false
 }
 
-#[cycle(error)]
+/// `!`, also as a selected, named or tuple symbol.
 fn is_error(symbol: &Symbol) -> bool
     ensures { result ≡ is_error (symbol_view symbol.now) }
 {
-    is_error_kind(&symbol.kind)
-}
-
-#[cycle(error)]
-fn is_error_kind(kind: &SymbolKind) -> bool
-    ensures { result ≡ is_error_kind (kind_view kind.now) }
-{
-    match kind {
-        SymbolKind::Error => true,
-        SymbolKind::Choose(symbol) => is_error(symbol),
-        SymbolKind::Name(_, symbol) => is_error(symbol),
-        SymbolKind::Tuple(_, symbol) => is_error(symbol),
-        SymbolKind::Expr(_)
-        | SymbolKind::AmbiguousId(_)
-        | SymbolKind::Terminal(_)
-        | SymbolKind::Nonterminal(_)
-        | SymbolKind::Macro(_)
-        | SymbolKind::Repeat(_)
-        | SymbolKind::Lookahead
-        | SymbolKind::Lookbehind => false,
+    match symbol.unwrapped().kind.as_grammar_symbol() {
+        Some(GrammarSymbol::Error) => true,
+        Some(GrammarSymbol::Terminal(_) | GrammarSymbol::Nonterminal(_)) | None => false,
     }
 }

@@ -7,10 +7,9 @@ ghost use Rattle.lalrpop_norm_repr.specs.Tables.{rows};
 ghost use Rattle.lalrpop_norm_lower.specs.Lowering.{rule_type, start_name, start_names, with_entry, sorted_onto};
 ghost use Rattle.lalrpop_norm_lower.specs.Starts.{start_rule, start_named, start_typed, typed_row};
 ghost use Rattle.lalrpop_norm_lower.specs.State.{table_by_number, IsTypeAt};
-ghost use Rattle.lalrpop_norm_lower.specs.Typing.{start_types};
+ghost use Rattle.lalrpop_norm_lower.specs.StartTypes.{start_types};
 
-use crate::numbered::NumberedTypes;
-use crate::typing::unit_type;
+use crate::numbered::{NumberedTypes, unit_type};
 use lalrpop_norm_repr::grammar::repr::{NonterminalData, TypeRepr};
 use lalrpop_norm_tree::grammar::parse_tree as pt;
 use lalrpop_norm_tree::grammar::parse_tree::{Atom, NoMemory, NonterminalString};

@@ -2,12 +2,12 @@
 ghost use Rattle.std.specs.Prelude.{◌≡◌, IfOk};
 ghost use Rattle.lalrpop_norm_tree.specs.Symbols.{kind_view, symbol_view, parts_view};
 ghost use Rattle.lalrpop_norm_tree.specs.SymbolTexts.{kind_text};
-ghost use Rattle.lalrpop_norm_lower.specs.Lowering.{lowered_kind, lowered_symbol, lowered_symbols};
+ghost use Rattle.lalrpop_norm_lower.specs.Lowering.{lowered_symbol, lowered_symbols};
 
 use lalrpop_norm_repr::grammar::repr::Symbol;
 use lalrpop_norm_tree::grammar::parse_tree as pt;
 use lalrpop_norm_tree::grammar::parse_tree::{
-    Atom, NoMemory, NonterminalString, SymbolKind, TerminalString,
+    Atom, GrammarSymbol, NoMemory, NonterminalString, SymbolKind, TerminalString,
 };
 use std::alloc::Global;
 
@@ -25,30 +25,16 @@ pub(crate) fn lowered_symbols(
     Ok(lowered)
 }
 
-#[cycle(lowered)]
+/// What a symbol is in a production, by what it is under wrappers.
 fn lowered_symbol(alloc: Global, symbol: &pt::Symbol) -> Result<Symbol, NoMemory>
     ensures { IfOk result (λ s. s ≡ lowered_symbol (symbol_view symbol.now)) }
 {
-    lowered_kind(alloc, &symbol.kind)
-}
-
-#[cycle(lowered)]
-fn lowered_kind(alloc: Global, kind: &SymbolKind) -> Result<Symbol, NoMemory>
-    ensures { IfOk result (λ s. s ≡ lowered_kind (kind_view kind.now)) }
-{
-    match kind {
-        SymbolKind::Terminal(terminal) => Ok(Symbol::Terminal(terminal.clone()?)),
-        SymbolKind::Error => Ok(Symbol::Terminal(TerminalString::Error)),
-        SymbolKind::Nonterminal(name) => Ok(Symbol::Nonterminal(name.clone()?)),
-        SymbolKind::Choose(symbol) => lowered_symbol(alloc, symbol),
-        SymbolKind::Name(_, symbol) => lowered_symbol(alloc, symbol),
-        SymbolKind::Tuple(_, symbol) => lowered_symbol(alloc, symbol),
-        SymbolKind::Expr(_)
-        | SymbolKind::AmbiguousId(_)
-        | SymbolKind::Macro(_)
-        | SymbolKind::Repeat(_)
-        | SymbolKind::Lookahead
-        | SymbolKind::Lookbehind => named_by_text(alloc, kind),
+    let kind = &symbol.unwrapped().kind;
+    match kind.as_grammar_symbol() {
+        Some(GrammarSymbol::Terminal(terminal)) => Ok(Symbol::Terminal(terminal.clone()?)),
+        Some(GrammarSymbol::Nonterminal(name)) => Ok(Symbol::Nonterminal(name.clone()?)),
+        Some(GrammarSymbol::Error) => Ok(Symbol::Terminal(TerminalString::Error)),
+        None => named_by_text(alloc, kind),
     }
 }
 

@@ -8,16 +8,16 @@ ghost use Rattle.lalrpop_norm_tree_parts.specs.Paths.{path_view};
 ghost use Rattle.lalrpop_norm_tree_patterns.specs.Patterns.{pattern_view, patterns_view, pattern_at, pattern_and};
 ghost use Rattle.lalrpop_norm_tree_patterns.specs.Patterns.{no_patterns, number, chosen};
 ghost use Rattle.lalrpop_norm_tree_parts.specs.Reprs.{repr_view, input_str};
-ghost use Rattle.lalrpop_norm_session.specs.Sessions.{features_view};
+ghost use Rattle.lalrpop_norm_common.specs.Sessions.{features_view};
 ghost use Rattle.lalrpop_norm_repr.specs.Tables.{rows};
 ghost use Rattle.lalrpop_norm_lower.specs.Carried.{internal_pattern};
 ghost use Rattle.lalrpop_norm_lower.specs.Conversions.{sorted_terminals, terminal_cmp};
 ghost use Rattle.lalrpop_norm_lower.specs.Made.{conversion_rows, row_of_entry, entry_rows_from, token_rows};
 
 use crate::patterns::lowered_pattern;
+use lalrpop_norm_common::{Session, cfg_active};
 use lalrpop_norm_lower_steps::terminals::terminal_of_entry;
 use lalrpop_norm_repr::grammar::repr::{TerminalString, TypeRepr};
-use lalrpop_norm_session::{Session, cfg_active};
 use lalrpop_norm_tree::grammar::parse_tree::{
     Atom, Conversion, GrammarItem, MatchEntry, NoMemory, Path, Span,
 };

@@ -1,7 +1,7 @@
 -- Codes and their first `<>`.
 use Rattle.std.proofs.Common.{◌≡◌, ◌∙◌, ℕ, Bool, true, false, cond, List, [], ◌∷◌, ◌++◌, drop, Option, Some, None, refl, sym, ap, codes, option_map, eqb, subst}
 use Rattle.std.proofs.lemmas.Bool.Decides.{Decides-eqb}
-use Rattle.lalrpop_norm_session.specs.Braces.{is_slot, around_slot}
+use Rattle.lalrpop_norm_common.specs.Braces.{is_slot, around_slot}
 use Rattle.lalrpop_norm_theory.proofs.BoolLemmas.{both_true}
 use Rattle.lalrpop_norm_theory.proofs.ListLemmas.{some_inner}
 

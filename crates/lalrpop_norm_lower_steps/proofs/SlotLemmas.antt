@@ -6,7 +6,7 @@ use Rattle.std.specs.Cmp.{nat_eq_equiv}
 use Rattle.std.proofs.lemmas.List.{append_assoc}
 use Rattle.std.proofs.lemmas.List.Elements.{All-from_recursion}
 use Rattle.lalrpop_norm_tree_names.specs.Texts.{joined}
-use Rattle.lalrpop_norm_session.specs.Braces.{is_slot, around_slot}
+use Rattle.lalrpop_norm_common.specs.Braces.{is_slot, around_slot}
 use Rattle.lalrpop_norm_model.specs.LoweringFaults.{slots}
 use Rattle.lalrpop_norm_lower_steps.specs.Filled.{in_slots, IsFilled}
 use Rattle.lalrpop_norm_lower_steps.specs.Slots.{Cut, cut_with, cut, pieces, in_order, filled_code}

@@ -2,7 +2,7 @@
 use Rattle.std.specs.Prelude.{◌≡◌, ℕ, Bool, ◌||◌, List, ◌∷◌, ◌++◌}
 use Rattle.std.specs.Prelude.{length, zip, flat_map, replicate, nat_le, All, None}
 use Rattle.std.specs.Prelude.{if◌then◌else◌, codes}
-use Rattle.lalrpop_norm_session.specs.Braces.{around_slot}
+use Rattle.lalrpop_norm_common.specs.Braces.{around_slot}
 use Rattle.lalrpop_norm_tree_names.specs.Texts.{joined}
 
 -- the code is these pieces with `<>` between each two, and no piece holds a `<>`

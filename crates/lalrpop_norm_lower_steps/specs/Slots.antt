@@ -1,7 +1,7 @@
 -- Codes cut at their `<>`, and with their `<>` replaced.
 use Rattle.std.specs.Prelude.{ℕ, Bool, true, false, ◌||◌, List, [], ◌∷◌, ◌++◌, drop, flat_map, zip}
 use Rattle.std.specs.Prelude.{nat_le, if◌then◌else◌, codes}
-use Rattle.lalrpop_norm_session.specs.Braces.{is_slot}
+use Rattle.lalrpop_norm_common.specs.Braces.{is_slot}
 use Rattle.lalrpop_norm_model.specs.LoweringFaults.{slots}
 use Rattle.lalrpop_norm_tree_names.specs.Texts.{joined}
 

@@ -6,5 +6,5 @@ pub mod clauses;
 pub mod code;
 pub mod placeholders;
 pub mod refusals;
-pub mod starts;
+pub mod start_symbols;
 pub mod terminals;

@@ -2,7 +2,7 @@
 ghost use Rattle.std.specs.Prelude.{◌≡◌, ◌+◌, ◌||◌, nat_le, ◌++◌, IfOk, OnOk, codes, is_some};
 ghost use Rattle.std.specs.Prelude.{length, map, option_map, string_bytes, flat_map, zip};
 ghost use Rattle.lalrpop_norm_tree_names.specs.Texts.{joined};
-ghost use Rattle.lalrpop_norm_session.specs.Braces.{around_slot};
+ghost use Rattle.lalrpop_norm_common.specs.Braces.{around_slot};
 ghost use Rattle.lalrpop_norm_model.specs.LoweringFaults.{slots};
 ghost use Rattle.lalrpop_norm_lower_steps.specs.Filled.{in_slots};
 ghost use Rattle.lalrpop_norm_lower_steps.specs.Slots.{pieces, in_order, filled_code};

@@ -1,1 +1,2 @@
 pub mod Inferred
+pub mod Rounds

@@ -16,9 +16,9 @@ ghost use Rattle.lalrpop_norm_tyinfer_steps.specs.Numbered.{numbered_table, Numb
 ghost use Rattle.lalrpop_norm_tyinfer_steps.specs.Visits.{plain_rule_view, rule_seen, with_clauses};
 
 mod agreement;
+mod clause_values;
 mod rounds;
 mod tokens;
-mod type_sources;
 
 use agreement::check_agreement;
 use lalrpop_norm_faults::NormResult;
@@ -64,7 +64,7 @@ pub fn infer_types_numbered(alloc: Global, grammar: &Grammar) -> NormResult<(Typ
     infer(alloc, grammar, &rules)
 }
 
-/// As `infer_types_numbered`, where the rules are at hand.
+/// The table and the numbers of the names, from the rules with their clauses.
 // The two are apart for drops: what a function owns ends at each `?` behind it, and each end is proved.
 fn infer(alloc: Global, grammar: &Grammar, rules: &[PlainRule]) -> NormResult<(Types, Names)>
     requires seen { map rule_seen rules.now ≡ map with_clauses (all_rules (grammar_view grammar.now)) }

@@ -12,8 +12,8 @@ use Rattle.lalrpop_norm_model.specs.Sources.{Source, chosen_sources, all_sources
 use Rattle.lalrpop_norm_model.specs.TypeRelation.{makes, alternative_clause}
 use Rattle.lalrpop_norm_model.specs.TypeTables.{both}
 use Rattle.lalrpop_norm_tyinfer_steps.specs.Clauses.{type_of_sources, default_clause, kinds_in, sources_in}
-use Rattle.lalrpop_norm_session.proofs.ExprLemmas.{map_any}
-use Rattle.lalrpop_norm_session.proofs.SymbolLemmas.{no_named}
+use Rattle.lalrpop_norm_common.proofs.ExprLemmas.{map_any}
+use Rattle.lalrpop_norm_common.proofs.SymbolLemmas.{no_named}
 use Rattle.lalrpop_norm_tyinfer_steps.specs.TableValues.{kind_in, type_in, types_in}
 use Rattle.lalrpop_norm_tree_parts.proofs.KnownTextLemmas.{map_twice}
 

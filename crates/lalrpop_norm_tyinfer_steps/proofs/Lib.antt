@@ -1,6 +1,5 @@
 pub mod ClauseLemmas
 pub mod FilledLemmas
-mod KindSizes
 mod LiteralLemmas
 pub mod LoopLemmas
 mod LoweredViews
@@ -19,6 +18,7 @@ mod TupleSizes
 pub mod ValueLemmas
 pub mod VisitLemmas
 mod WaitingLemmas
+mod WrapperLemmas
 mod QueueLemmas
 mod WrittenSizes
 mod WrittenSymbols

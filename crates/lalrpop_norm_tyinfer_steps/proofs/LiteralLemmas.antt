@@ -7,8 +7,8 @@ use Rattle.lalrpop_norm_tree_names.specs.declared.names.TerminalString.TheVarian
 use Rattle.lalrpop_norm_tree.specs.Items.{GrammarData}
 use Rattle.lalrpop_norm_model.specs.Terminals.{terminals_used}
 use Rattle.lalrpop_norm_model.specs.TerminalTypes.{let_in}
-use Rattle.lalrpop_norm_session.specs.Uses.{Use, places_in_item}
-use Rattle.lalrpop_norm_session.proofs.UsedLemmas.{uses_are, terminals_are_used}
+use Rattle.lalrpop_norm_common.specs.Uses.{Use, places_in_item}
+use Rattle.lalrpop_norm_common.proofs.UsedLemmas.{uses_are, terminals_are_used}
 use Rattle.lalrpop_norm_tyinfer_steps.specs.Literals.{used_literal}
 
 none_let : (ts : List TerminalString) → flat_map (let_in None) ts ≡ []

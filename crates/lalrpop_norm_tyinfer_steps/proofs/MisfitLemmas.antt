@@ -7,20 +7,18 @@ use Rattle.lalrpop_norm_tree_names.specs.declared.names.Span.{Span}
 use Rattle.lalrpop_norm_tree_parts.specs.declared.lowered.TypeRepr.{TypeRepr}
 use Rattle.lalrpop_norm_tree.specs.declared.symbol.ArgPattern.{ArgPattern}
 use Rattle.lalrpop_norm_tree.specs.declared.symbol.ArgPattern.TheFolds.{fold_out-Tuple}
-use Rattle.lalrpop_norm_tree.specs.declared.symbol.Symbol.{Symbol}
 use Rattle.lalrpop_norm_tree.specs.declared.symbol.Tuple.{Tuple}
-use Rattle.lalrpop_norm_tree.specs.declared.symbol.SymbolKind.TheFolds.{fold_out-Symbol}
 use Rattle.lalrpop_norm_tree_parts.specs.Reprs.{ReprData, Reprs, tuple, slice, nominal, associated, of_lifetime, reference, trait_object, function, reprs_view, repr_view}
-use Rattle.lalrpop_norm_tree.specs.Symbols.{ArgumentPattern, ArgumentPatterns, several, argument_pattern_step, tuple_step, tuple_view, Call, Again, kind_step, expr_step, macro_step, repeat_step, symbol_step, kind_view, parts_view, Kind, Part, Parts, tupled, at, no_parts, part_and, argument_pattern_view, argument_patterns_view}
+use Rattle.lalrpop_norm_tree.specs.Symbols.{ArgumentPattern, ArgumentPatterns, several, argument_pattern_step, tuple_step, tuple_view, Kind, Parts, tupled, at, no_parts, part_and, argument_pattern_view, argument_patterns_view}
 use Rattle.lalrpop_norm_faults.specs.declared.failure.NormFailure.{NormFailure}
 use Rattle.lalrpop_norm_faults.specs.declared.kind.FaultKind.TheVariants.{TupleLength, TupleOverType}
 use Rattle.lalrpop_norm_faults.specs.Faults.{Fault, Refuses}
 use Rattle.lalrpop_norm_model.specs.TuplePatterns.{tuple_symbols, symbol_misfits, misfits, misfits_of, as_many}
 use Rattle.lalrpop_norm_model.specs.TypeTables.{Table}
-use Rattle.lalrpop_norm_tyinfer_steps.specs.TableFaults.{faults_at, kind_misfits, parts_misfits, types_in_tuple}
+use Rattle.lalrpop_norm_tyinfer_steps.specs.TableFaults.{faults_at, parts_misfits, types_in_tuple}
 
 misfits_one : (f : Table) (s : Span) (k : Kind) (ps : Parts) → flat_map (symbol_misfits f) (tuple_symbols ps) ≡ parts_misfits f ps →
-    flat_map (symbol_misfits f) (tuple_symbols (part_and (at s k) ps)) ≡ kind_misfits f k ++ parts_misfits f ps
+    flat_map (symbol_misfits f) (tuple_symbols (part_and (at s k) ps)) ≡ parts_misfits f (part_and (at s k) ps)
 misfits_one f s (tupled ns p) ps e = ap (λ fs. symbol_misfits f (ns, p) ++ fs) e
 misfits_one f s _ ps e = e
 
@@ -28,10 +26,6 @@ misfits_one f s _ ps e = e
 pub misfits_are : (f : Table) (ps : Parts) → flat_map (symbol_misfits f) (tuple_symbols ps) ≡ parts_misfits f ps
 misfits_are f no_parts = refl
 misfits_are f (part_and (at s k) ps) = misfits_one f s k ps (misfits_are f ps)
-
--- the first of some symbols
-pub first_part : (f : Table) (x : Symbol) (xs : List Symbol) → parts_misfits f (parts_view (x ∷ xs)) ≡ kind_misfits f (kind_view x.kind) ++ parts_misfits f (parts_view xs)
-first_part f x xs = ap (λ p. parts_misfits f (part_and p (parts_view xs))) (fold_out-Symbol Kind Parts Call Again Part kind_step expr_step macro_step repeat_step symbol_step x)
 
 -- the names of a tuple
 pub tuple_is : (t : Tuple) → tuple_view t ≡ argument_patterns_view t.tuples.items

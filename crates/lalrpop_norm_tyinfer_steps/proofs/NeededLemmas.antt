@@ -12,7 +12,7 @@ use Rattle.lalrpop_norm_tree.specs.Types.{TypeData, TypesData, MaybeType, types_
 use Rattle.lalrpop_norm_theory.specs.Rounds.{In}
 use Rattle.lalrpop_norm_theory.proofs.RoundsLemmas.{in_left, in_right, in_cases}
 use Rattle.lalrpop_norm_repr.specs.Tables.{TypeTable, type_of_terminal}
-use Rattle.lalrpop_norm_model.specs.Wrappers.{wrapped_kind}
+use Rattle.lalrpop_norm_tree.specs.Traversal.{wrapped_kind}
 use Rattle.lalrpop_norm_model.specs.Expanded.{leaf_names, names_in_kind}
 use Rattle.lalrpop_norm_model.specs.TypeRelation.{associated_in, TypeClause, makes, locates}
 use Rattle.lalrpop_norm_model.specs.TypeTables.{leaf_type, path_value, both}

@@ -3,12 +3,10 @@ use Rattle.std.proofs.Common.{◌≡◌, ◌++◌, ℕ, List, Option, Box, Vec, 
 use Rattle.std.specs.Prelude.{Result, OnOk}
 use Rattle.lalrpop_norm_tree.specs.declared.types.TypeRef.{TypeRef}
 use Rattle.lalrpop_norm_tree.specs.declared.types.TypeRef.TheVariants.{Fn}
-use Rattle.lalrpop_norm_tree.specs.Symbols.{Kind}
 use Rattle.lalrpop_norm_tree.specs.Types.{TypeData, function, maybe_of, type_view, types_view}
 use Rattle.lalrpop_norm_tree_names.specs.declared.names.TypeParameter.{TypeParameter}
 use Rattle.lalrpop_norm_tree_parts.specs.declared.path.Path.{Path}
 use Rattle.lalrpop_norm_tree_parts.specs.Paths.{path_view}
-use Rattle.lalrpop_norm_model.specs.Expanded.{names_in_kind}
 use Rattle.lalrpop_norm_tyinfer_steps.specs.Needs.{needed_type}
 use Rattle.lalrpop_norm_tree.proofs.TypeViews.{function_is}
 
@@ -20,7 +18,3 @@ function_needs ps t fs p ts r e = ap (needed_type ps) (function_is t fs p ts r e
 pub needs_as : {T E Y : Type 0} (f : List ℕ → Y) (ps : List TypeParameter) (r : Result T E) (old new : List Y) (d e : TypeData) → d ≡ e →
     OnOk r (new ≡ old ++ map f (needed_type ps e)) → OnOk r (new ≡ old ++ map f (needed_type ps d))
 needs_as f ps r old new d e same h = rw same h
-
-pub names_as : {T E Y : Type 0} (f : List ℕ → Y) (r : Result T E) (old new : List Y) (d e : Kind) → d ≡ e →
-    OnOk r (new ≡ old ++ map f (names_in_kind e)) → OnOk r (new ≡ old ++ map f (names_in_kind d))
-names_as f r old new d e same h = rw same h

@@ -5,14 +5,15 @@ use Rattle.lalrpop_norm_tree_names.specs.declared.names.Span.{Span}
 use Rattle.lalrpop_norm_tree_names.specs.declared.names.TypeParameter.{TypeParameter}
 use Rattle.lalrpop_norm_tree_parts.specs.Reprs.{ReprData, Reprs, tuple}
 use Rattle.lalrpop_norm_tree.specs.Items.{AlternativeData, RuleData}
-use Rattle.lalrpop_norm_tree.specs.Symbols.{Kind, tupled, Parts, at, no_parts, part_and}
+use Rattle.lalrpop_norm_tree.specs.Accessors.{tuple_of}
+use Rattle.lalrpop_norm_tree.specs.Symbols.{Parts, no_parts, part_and}
 use Rattle.lalrpop_norm_faults.specs.Faults.{Fault, fault_if}
 use Rattle.lalrpop_norm_faults.specs.declared.kind.FaultKind.{FaultKind}
 use Rattle.lalrpop_norm_faults.specs.declared.kind.FaultKind.TheVariants.{NotGrounded, Disagreement}
 use Rattle.lalrpop_norm_repr.specs.Tables.{TypeTable}
 use Rattle.lalrpop_norm_model.specs.Grammars.{is_nil}
 use Rattle.lalrpop_norm_model.specs.InferenceFaults.{is_undeclared, lack_of, is_other}
-use Rattle.lalrpop_norm_model.specs.TuplePatterns.{symbol_misfits}
+use Rattle.lalrpop_norm_model.specs.TuplePatterns.{Pattern, symbol_misfits}
 use Rattle.lalrpop_norm_model.specs.TypeRelation.{TypeClause, alternative_clause}
 use Rattle.lalrpop_norm_model.specs.TypeTables.{Table}
 use Rattle.lalrpop_norm_tyinfer_steps.specs.Clauses.{clause_in}
@@ -49,10 +50,10 @@ types_in_tuple (tuple ts) = Some ts
 types_in_tuple x = None
 
 -- F51 to F53 at a tuple symbol
-abbrev pub kind_misfits : Table → Kind → List Fault
-kind_misfits f (tupled ns p) = symbol_misfits f (ns, p)
-kind_misfits f k = []
+abbrev pub tuple_misfits : Table → Option Pattern → List Fault
+tuple_misfits f (Some p) = symbol_misfits f p
+tuple_misfits f None = []
 
 abbrev pub parts_misfits : Table → Parts → List Fault
 parts_misfits f no_parts = []
-parts_misfits f (part_and (at s k) ps) = kind_misfits f k ++ parts_misfits f ps
+parts_misfits f (part_and p ps) = tuple_misfits f (tuple_of p) ++ parts_misfits f ps

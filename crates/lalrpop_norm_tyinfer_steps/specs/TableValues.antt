@@ -3,11 +3,10 @@ use Rattle.std.specs.Prelude.{ℕ, List, Option}
 use Rattle.lalrpop_norm_tree_names.specs.declared.names.NonterminalString.{NonterminalString}
 use Rattle.lalrpop_norm_tree_names.specs.declared.names.TypeParameter.{TypeParameter}
 use Rattle.lalrpop_norm_tree_parts.specs.Reprs.{ReprData, Reprs, MaybeRepr}
-use Rattle.lalrpop_norm_tree.specs.Symbols.{Kind, Part}
+use Rattle.lalrpop_norm_tree.specs.Symbols.{Kind}
 use Rattle.lalrpop_norm_tree.specs.Types.{TypeData, TypesData, MaybeType}
 use Rattle.lalrpop_norm_repr.specs.Tables.{TypeTable, type_of, type_of_terminal}
-use Rattle.lalrpop_norm_model.specs.Wrappers.{wrapped_part}
-use Rattle.lalrpop_norm_model.specs.TypeTables.{Table, TypeEnvironment, leaf_type, kind_type, type_meant, types_meant, return_meant}
+use Rattle.lalrpop_norm_model.specs.TypeTables.{Table, TypeEnvironment, kind_type, type_meant, types_meant, return_meant}
 
 abbrev pub nonterminal_named : List ℕ → NonterminalString
 nonterminal_named n = record { 0 = n }
@@ -22,9 +21,6 @@ table_types tt = record { terminals = λ t. type_of_terminal t tt; recovery = tt
 
 abbrev pub kind_in : TypeTable → Kind → Option ReprData
 kind_in tt k = kind_type (table_types tt) k
-
-abbrev pub part_in : TypeTable → Part → Option ReprData
-part_in tt p = leaf_type (table_types tt) (wrapped_part p)
 
 abbrev pub type_in : List TypeParameter → TypeTable → TypeData → Option ReprData
 type_in ps tt t = type_meant ps (table_types tt) t

@@ -7,8 +7,8 @@ ghost use Rattle.lalrpop_norm_model.specs.Terminals.{terminals_used};
 ghost use Rattle.lalrpop_norm_model.specs.TokenFaults.{names_mapped_by};
 ghost use Rattle.lalrpop_norm_tyinfer_steps.specs.Literals.{used_literal};
 
-use lalrpop_norm_session::match_block::catch_all_of;
-use lalrpop_norm_session::uses::{Use, uses_of};
+use lalrpop_norm_common::match_block::catch_all_of;
+use lalrpop_norm_common::uses::{Use, uses_of};
 use lalrpop_norm_tree::grammar::parse_tree::{
     Grammar, MatchContents, MatchItem, MatchMapping, MatchToken, NoMemory, TerminalString,
 };

@@ -2,10 +2,10 @@
 ghost use Rattle.std.specs.Prelude.{◌≡◌, ◌++◌, List, IfOk, OnOk, flat_map, map, option_map};
 ghost use Rattle.lalrpop_norm_names.specs.Numbers.{number_in_table};
 ghost use Rattle.lalrpop_norm_tree_names.specs.declared.names.TypeParameter.{TypeParameter};
-ghost use Rattle.lalrpop_norm_tree.specs.Symbols.{kind_view, symbol_view};
+ghost use Rattle.lalrpop_norm_tree.specs.Symbols.{kind_view};
 ghost use Rattle.lalrpop_norm_tree.specs.Types.{type_view, types_view, maybe_of};
 ghost use Rattle.lalrpop_norm_tree_parts.specs.Paths.{path_view};
-ghost use Rattle.lalrpop_norm_model.specs.Expanded.{names_in, names_in_kind};
+ghost use Rattle.lalrpop_norm_model.specs.Expanded.{names_in_kind};
 ghost use Rattle.lalrpop_norm_model.specs.TypeRelation.{associated_in, makes};
 ghost use Rattle.lalrpop_norm_tyinfer_steps.specs.Clauses.{clause_view, clauses_view};
 ghost use Rattle.lalrpop_norm_tyinfer_steps.specs.Needs.{needed_in, needed_type, needed_types, needed_return, needed_path};
@@ -14,10 +14,10 @@ ghost use Rattle.lalrpop_norm_tyinfer_steps.specs.Visits.{rule_seen};
 
 use crate::rules::PlainRule;
 use crate::type_sources::{RuleClauses, TypeSource};
-use crate::values::associated;
+use crate::values::{associated, under_wrappers};
 use lalrpop_norm_names::Names;
 use lalrpop_norm_tree::grammar::parse_tree::{
-    NoMemory, Path, Symbol, SymbolKind, TypeParameter, TypeRef,
+    GrammarSymbol, NoMemory, Path, Symbol, SymbolKind, TypeParameter, TypeRef,
 };
 use std::alloc::Global;
 
@@ -31,7 +31,6 @@ pub struct Need {
 }
 
 /// Adds the number of the name that a symbol gives its type by.
-#[cycle(symbol)]
 fn add_kind(
     numbers: &mut Vec<Option<usize>>,
     names: &Names,
@@ -39,34 +38,13 @@ fn add_kind(
 ) -> Result<(), NoMemory>
     ensures { OnOk result (numbers.new.items ≡ numbers.old.items ++ map (number_in_table names.now) (names_in_kind (kind_view kind.now))) }
 {
-    match kind {
-        SymbolKind::Nonterminal(name) => {
+    match under_wrappers(kind).as_grammar_symbol() {
+        Some(GrammarSymbol::Nonterminal(name)) => {
             numbers.push(names.number(name))?;
             Ok(())
         }
-        SymbolKind::Choose(symbol) => add_symbol(numbers, names, symbol),
-        SymbolKind::Name(_, symbol) => add_symbol(numbers, names, symbol),
-        SymbolKind::Tuple(_, symbol) => add_symbol(numbers, names, symbol),
-        SymbolKind::Expr(_)
-        | SymbolKind::AmbiguousId(_)
-        | SymbolKind::Terminal(_)
-        | SymbolKind::Macro(_)
-        | SymbolKind::Repeat(_)
-        | SymbolKind::Lookahead
-        | SymbolKind::Lookbehind
-        | SymbolKind::Error => Ok(()),
+        Some(GrammarSymbol::Terminal(_)) | Some(GrammarSymbol::Error) | None => Ok(()),
     }
-}
-
-#[cycle(symbol)]
-fn add_symbol(
-    numbers: &mut Vec<Option<usize>>,
-    names: &Names,
-    symbol: &Symbol,
-) -> Result<(), NoMemory>
-    ensures { OnOk result (numbers.new.items ≡ numbers.old.items ++ map (number_in_table names.now) (names_in (symbol_view symbol.now))) }
-{
-    add_kind(numbers, names, &symbol.kind)
 }
 
 /// Adds those of the names that a written type is made of.

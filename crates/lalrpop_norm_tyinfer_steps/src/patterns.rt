@@ -3,12 +3,14 @@ ghost use Rattle.std.specs.Prelude.{◌≡◌, ◌∷◌, [], length, flat_map, 
 ghost use Rattle.lalrpop_norm_tree.specs.Items.{alternative_view, rule_view};
 ghost use Rattle.lalrpop_norm_tree_parts.specs.Reprs.{repr_view, reprs_view};
 ghost use Rattle.lalrpop_norm_tree.specs.Symbols.{argument_pattern_view, argument_patterns_view, several, tuple_view};
-ghost use Rattle.lalrpop_norm_tree.specs.Symbols.{symbol_view, kind_view, parts_view, expr_view};
+ghost use Rattle.lalrpop_norm_tree.specs.Symbols.{symbol_view, parts_view, expr_view};
+ghost use Rattle.lalrpop_norm_tree.specs.Accessors.{tuple_of};
 ghost use Rattle.lalrpop_norm_faults.specs.Faults.{Refuses};
 ghost use Rattle.lalrpop_norm_faults.specs.declared.kind.FaultKind.TheVariants.{TupleLength};
-ghost use Rattle.lalrpop_norm_model.specs.TuplePatterns.{as_many, misfits, misfits_of, symbol_misfits, alternative_misfits, rule_misfits};
+ghost use Rattle.lalrpop_norm_model.specs.TuplePatterns.{as_many, misfits, misfits_of, over_found};
+ghost use Rattle.lalrpop_norm_model.specs.TuplePatterns.{symbol_misfits, alternative_misfits, rule_misfits};
 ghost use Rattle.lalrpop_norm_tyinfer_steps.specs.Numbered.{numbered_table};
-ghost use Rattle.lalrpop_norm_tyinfer_steps.specs.TableFaults.{faults_at, kind_misfits, parts_misfits, types_in_tuple};
+ghost use Rattle.lalrpop_norm_tyinfer_steps.specs.TableFaults.{faults_at, parts_misfits, tuple_misfits, types_in_tuple};
 ghost use Rattle.lalrpop_norm_tyinfer_steps.specs.TableValues.{type_by_name};
 ghost use Rattle.lalrpop_norm_tyinfer_steps.specs.Visits.{plain_rule_view};
 
@@ -17,7 +19,8 @@ use crate::rules::PlainRule;
 use lalrpop_norm_faults::{FaultKind, NormResult, refusal};
 use lalrpop_norm_repr::grammar::repr::TypeRepr;
 use lalrpop_norm_tree::grammar::parse_tree::{
-    Alternative, ArgPattern, ExprSymbol, NonterminalData, Span, Symbol, SymbolKind, Tuple,
+    Alternative, ArgPattern, ExprSymbol, GrammarSymbol, NonterminalData, NonterminalString, Span,
+    Symbol, Tuple,
 };
 use std::alloc::Global;
 
@@ -67,27 +70,18 @@ fn check_symbols(alloc: Global, types: &Numbered, symbols: &[Symbol]) -> NormRes
     ensures { Refuses result (parts_misfits (type_by_name (numbered_table types.now)) (parts_view symbols.now)) }
 {
     for symbol in symbols {
-        check_kind(alloc, types, &symbol.kind)?;
+        check_part(alloc, types, symbol)?;
     }
     Ok(())
 }
 
-fn check_kind(alloc: Global, types: &Numbered, kind: &SymbolKind) -> NormResult<()>
-    ensures { Refuses result (kind_misfits (type_by_name (numbered_table types.now)) (kind_view kind.now)) }
+/// A tuple symbol; any other symbol passes.
+fn check_part(alloc: Global, types: &Numbered, symbol: &Symbol) -> NormResult<()>
+    ensures { Refuses result (tuple_misfits (type_by_name (numbered_table types.now)) (tuple_of (symbol_view symbol.now))) }
 {
-    match kind {
-        SymbolKind::Tuple(tuple, symbol) => check_symbol(alloc, types, tuple, symbol),
-        SymbolKind::Expr(_)
-        | SymbolKind::AmbiguousId(_)
-        | SymbolKind::Terminal(_)
-        | SymbolKind::Nonterminal(_)
-        | SymbolKind::Macro(_)
-        | SymbolKind::Repeat(_)
-        | SymbolKind::Choose(_)
-        | SymbolKind::Name(_, _)
-        | SymbolKind::Lookahead
-        | SymbolKind::Lookbehind
-        | SymbolKind::Error => Ok(()),
+    match symbol.as_tuple() {
+        Some((tuple, symbol)) => check_symbol(alloc, types, tuple, symbol),
+        None => Ok(()),
     }
 }
 
@@ -95,32 +89,42 @@ fn check_kind(alloc: Global, types: &Numbered, kind: &SymbolKind) -> NormResult<
 fn check_symbol(alloc: Global, types: &Numbered, tuple: &Tuple, symbol: &Symbol) -> NormResult<()>
     ensures { Refuses result (symbol_misfits (type_by_name (numbered_table types.now)) (tuple_view tuple.now, symbol_view symbol.now)) }
 {
-    match &symbol.kind {
-        SymbolKind::Nonterminal(name) => match types.lookup_nonterminal_type(name) {
-            Some(ty) => check_names(alloc, symbol.span, tuple, ty),
-            None => Err(refusal(
-                FaultKind::TupleOverType,
-                symbol.span,
-                format!(in alloc;
-                    "a tuple of names needs a tuple type, and `{name}` has no type: give the value one name"
-                ),
-            )),
-        },
-        SymbolKind::Expr(_)
-        | SymbolKind::AmbiguousId(_)
-        | SymbolKind::Terminal(_)
-        | SymbolKind::Macro(_)
-        | SymbolKind::Repeat(_)
-        | SymbolKind::Choose(_)
-        | SymbolKind::Name(_, _)
-        | SymbolKind::Tuple(_, _)
-        | SymbolKind::Lookahead
-        | SymbolKind::Lookbehind
-        | SymbolKind::Error => Err(refusal(
+    match symbol.kind.as_grammar_symbol() {
+        Some(GrammarSymbol::Nonterminal(name)) => check_named(
+            alloc,
+            types,
+            symbol.span,
+            tuple,
+            name,
+        ),
+        Some(GrammarSymbol::Terminal(_)) | Some(GrammarSymbol::Error) | None => Err(refusal(
             FaultKind::TupleOverSymbol,
             symbol.span,
             format!(in alloc;
                 "a tuple of names stands before `{symbol}`, which is no nonterminal: give it one name, and take the value apart in the action code"
+            ),
+        )),
+    }
+}
+
+/// A tuple of names before a nonterminal.
+fn check_named(
+    alloc: Global,
+    types: &Numbered,
+    span: Span,
+    tuple: &Tuple,
+    name: &NonterminalString,
+) -> NormResult<()>
+    ensures { Refuses result (faults_at span
+        (over_found (tuple_view tuple.now) (type_by_name (numbered_table types.now) name.now.0))) }
+{
+    match types.lookup_nonterminal_type(name) {
+        Some(ty) => check_names(alloc, span, tuple, ty),
+        None => Err(refusal(
+            FaultKind::TupleOverType,
+            span,
+            format!(in alloc;
+                "a tuple of names needs a tuple type, and `{name}` has no type: give the value one name"
             ),
         )),
     }

@@ -6,7 +6,7 @@ ghost use Rattle.lalrpop_norm_tree.specs.Types.{type_view};
 ghost use Rattle.lalrpop_norm_model.specs.TypeRelation.{alternative_clause, type_clauses, type_clauses_of};
 ghost use Rattle.lalrpop_norm_tyinfer_steps.specs.Clauses.{default_clause, clause_view, clauses_view, declared_by};
 
-use lalrpop_norm_session::norm_util::{has_name_value, sources};
+use lalrpop_norm_common::norm_util::{has_name_value, sources};
 use lalrpop_norm_tree::grammar::parse_tree::{
     ActionKind, Alternative, ExprSymbol, NoMemory, NonterminalData, Symbol, TypeRef,
 };

@@ -4,49 +4,54 @@ ghost use Rattle.lalrpop_norm_tree_parts.specs.Paths.{path_view};
 ghost use Rattle.lalrpop_norm_tree_parts.specs.Reprs as lowered;
 ghost use Rattle.lalrpop_norm_tree_parts.specs.Reprs.{repr_view, reprs_view, applied_view, maybe_repr_of};
 ghost use Rattle.lalrpop_norm_tree.specs.LoweredTypes.{named_path};
-ghost use Rattle.lalrpop_norm_tree.specs.Symbols.{kind_view, symbol_view};
+ghost use Rattle.lalrpop_norm_tree.specs.Symbols.{kind_view};
+ghost use Rattle.lalrpop_norm_tree.specs.Traversal.{wrapped_kind};
 ghost use Rattle.lalrpop_norm_tree.specs.Types.{type_view, types_view, maybe_of};
 ghost use Rattle.lalrpop_norm_model.specs.TypeRelation.{associated_in, is_parameter_of, is_type_parameter};
-ghost use Rattle.lalrpop_norm_model.specs.TypeTables.{path_value, both};
+ghost use Rattle.lalrpop_norm_model.specs.TypeTables.{leaf_type, path_value, both};
 ghost use Rattle.lalrpop_norm_tyinfer_steps.specs.Numbered.{numbered_table};
-ghost use Rattle.lalrpop_norm_tyinfer_steps.specs.TableValues.{kind_in, part_in, type_in, types_in, return_in};
+ghost use Rattle.lalrpop_norm_tyinfer_steps.specs.TableValues.{kind_in, table_types, type_in, types_in, return_in};
 
 use crate::numbered::Numbered;
 use crate::same::is_same_name;
 use lalrpop_norm_repr::grammar::repr::{NominalTypeRepr, TypeRepr};
 use lalrpop_norm_tree::grammar::parse_tree::{
-    Atom, Lifetime, NoMemory, Path, Symbol, SymbolKind, TypeParameter, TypeRef,
+    Atom, GrammarSymbol, Lifetime, NoMemory, Path, SymbolKind, TypeParameter, TypeRef,
 };
 use lalrpop_norm_tree_parts::lowered::copy::copy_of;
 use lalrpop_norm_tree_parts::names::copy::copy_type_parameters;
 use std::alloc::Global;
 
-/// A copy of the type that a symbol gives, if it gives one by the table.
-#[cycle(kind)]
-pub fn kind_value(types: &Numbered, kind: &SymbolKind) -> Result<Option<TypeRepr>, NoMemory>
-    ensures { IfOk result (λ o. option_map repr_view o ≡ kind_in (numbered_table types.now) (kind_view kind.now)) }
+/// What a symbol is under wrappers: under `<..>`, a name and a tuple pattern. Any other is its own.
+pub(crate) fn under_wrappers(kind: &SymbolKind) -> &SymbolKind
+    ensures { kind_view result.now ≡ wrapped_kind (kind_view kind.now) }
 {
-    match kind {
-        SymbolKind::Terminal(terminal) => Ok(copy_of(Some(types.terminal_type(terminal)))?),
-        SymbolKind::Error => Ok(copy_of(Some(types.error_recovery_type()))?),
-        SymbolKind::Nonterminal(name) => Ok(copy_of(types.lookup_nonterminal_type(name))?),
-        SymbolKind::Choose(inner) => symbol_value(types, inner),
-        SymbolKind::Name(_, inner) => symbol_value(types, inner),
-        SymbolKind::Tuple(_, inner) => symbol_value(types, inner),
-        SymbolKind::Expr(_)
-        | SymbolKind::AmbiguousId(_)
-        | SymbolKind::Macro(_)
-        | SymbolKind::Repeat(_)
-        | SymbolKind::Lookahead
-        | SymbolKind::Lookbehind => Ok(None),
+    match kind.as_bound() {
+        Some((_, symbol)) => &symbol.unwrapped().kind,
+        None => match kind.as_selected() {
+            Some(symbol) => &symbol.unwrapped().kind,
+            None => kind,
+        },
     }
 }
 
-#[cycle(kind)]
-fn symbol_value(types: &Numbered, symbol: &Symbol) -> Result<Option<TypeRepr>, NoMemory>
-    ensures { IfOk result (λ o. option_map repr_view o ≡ part_in (numbered_table types.now) (symbol_view symbol.now)) }
+/// A copy of the type that a symbol gives, if it gives one by the table.
+pub fn kind_value(types: &Numbered, kind: &SymbolKind) -> Result<Option<TypeRepr>, NoMemory>
+    ensures { IfOk result (λ o. option_map repr_view o ≡ kind_in (numbered_table types.now) (kind_view kind.now)) }
 {
-    kind_value(types, &symbol.kind)
+    Ok(copy_of(given_type(types, under_wrappers(kind)))?)
+}
+
+/// The type that a grammar symbol has by the table; nothing for any other.
+fn given_type<'t>(types: &'t Numbered, kind: &SymbolKind) -> Option<&'t TypeRepr>
+    ensures { option_map (λ t. repr_view t.now) result ≡ leaf_type (table_types (numbered_table types.now)) (kind_view kind.now) }
+{
+    match kind.as_grammar_symbol() {
+        Some(GrammarSymbol::Terminal(terminal)) => Some(types.terminal_type(terminal)),
+        Some(GrammarSymbol::Nonterminal(name)) => types.lookup_nonterminal_type(name),
+        Some(GrammarSymbol::Error) => Some(types.error_recovery_type()),
+        None => None,
+    }
 }
 
 fn is_parameter_of(name: &Atom, parameter: &TypeParameter) -> bool

@@ -10,7 +10,7 @@ ghost use Rattle.lalrpop_norm_tyinfer_steps.specs.Numbered.{numbered_table};
 ghost use Rattle.lalrpop_norm_tyinfer_steps.specs.TableFaults.{other_in, others_in};
 ghost use Rattle.lalrpop_norm_tyinfer_steps.specs.Visits.{plain_rule_view};
 
-use crate::tyinfer::type_sources::clause_value;
+use crate::tyinfer::clause_values::clause_value;
 use lalrpop_norm_faults::{FaultKind, NormResult, refusal};
 use lalrpop_norm_repr::grammar::repr::TypeRepr;
 use lalrpop_norm_tree::grammar::parse_tree::{Alternative, NonterminalString, Span};

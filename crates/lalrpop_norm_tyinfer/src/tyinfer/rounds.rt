@@ -6,9 +6,10 @@ ghost use Rattle.lalrpop_norm_tyinfer_steps.specs.Numbered.{numbered_table, HasS
 ghost use Rattle.lalrpop_norm_tyinfer_steps.specs.Stops.{IsStops, typed_at};
 ghost use Rattle.lalrpop_norm_tyinfer_steps.specs.TableValues.{type_by_name};
 ghost use Rattle.lalrpop_norm_tyinfer_steps.specs.Visits.{rule_seen, EndsRounds, Passes};
-ghost use Rattle.lalrpop_norm_tyinfer_steps.specs.Waiting.{VisitsOne, Waits, Wakes, Watches};
+ghost use Rattle.lalrpop_norm_tyinfer_steps.specs.Waiting.{VisitsOne, Wakes};
+ghost use Rattle.lalrpop_norm_tyinfer.specs.Rounds.{rules_seen, IsBetween};
 
-use crate::tyinfer::type_sources::first_value;
+use crate::tyinfer::clause_values::first_value;
 use lalrpop_norm_tree::grammar::parse_tree::{NoMemory, TypeParameter};
 use lalrpop_norm_tyinfer_steps::needs::needs_of;
 use lalrpop_norm_tyinfer_steps::numbered::Numbered;
@@ -16,6 +17,14 @@ use lalrpop_norm_tyinfer_steps::rules::PlainRule;
 use lalrpop_norm_tyinfer_steps::stops::Stops;
 use lalrpop_norm_tyinfer_steps::waiting::Waiting;
 use std::alloc::Global;
+
+/// What the rounds read: the rules in order, and the type parameters of the grammar.
+#[derive(Clone, Copy)]
+struct Inference<'r> {
+    alloc: Global,
+    parameters: &'r [TypeParameter],
+    rules: &'r [PlainRule<'r>],
+}
 
 /// Puts some indices on the worklists: those behind the index on that of this round, the others on that of the next one.
 fn wake(
@@ -49,8 +58,7 @@ fn wake_one(
 /// Visits the rule at an index: one without a type takes that of its first clause that makes one. The rules of the clauses that
 /// have all types by that; none where it takes none.
 fn step(
-    alloc: Global,
-    parameters: &[TypeParameter],
+    inference: &Inference,
     types: &mut Numbered,
     stops: &mut Stops,
     rule: &PlainRule,
@@ -60,14 +68,15 @@ fn step(
     requires within { place < length stops.old.typed.items }
     requires number { IsNumberOf types.old rule.now.data.now.name.0 place }
     requires told { typed_at stops.old place ≡ is_some (type_by_name (numbered_table types.old) rule.now.data.now.name.0) }
-    ensures visits { IfOk result (λ ready. VisitsOne parameters.now (numbered_table types.old) (numbered_table types.new)
-        (rule_seen rule.now) place stops.old stops.new ready.items) }
+    ensures visits { IfOk result (λ ready. VisitsOne inference.now.parameters.now
+        (numbered_table types.old) (numbered_table types.new) (rule_seen rule.now) place stops.old stops.new ready.items) }
     ensures numbers { IfOk result (λ ready. HasSameNumbers types.old types.new) }
 {
+    let alloc = inference.alloc;
     if stops.is_typed(place) {
         return Ok(Vec::new(alloc));
     }
-    match first_value(alloc, parameters, types, &rule.clauses)? {
+    match first_value(alloc, inference.parameters, types, &rule.clauses)? {
         Some(ty) => {
             types.put(place, ty);
             stops.give_type(alloc, place)
@@ -79,28 +88,22 @@ fn step(
 /// A round over the rules in order, of which only those at some indices may take a type. It answers the worklist of the next
 /// round.
 fn round(
-    alloc: Global,
-    parameters: &[TypeParameter],
+    inference: &Inference,
     types: &mut Numbered,
-    rules: &[PlainRule],
     stops: &mut Stops,
     now: &mut Waiting,
 ) -> Result<Waiting, NoMemory>
-    requires distinct { IsDistinct (names_seen (map rule_seen rules.now)) }
-    requires numbered { NumbersRules types.old (map rule_seen rules.now) }
-    requires watches { Watches parameters.now (numbered_table types.old) (map rule_seen rules.now) stops.old }
-    requires waits { Waits parameters.now (numbered_table types.old) (map rule_seen rules.now) now.old }
-    ensures numbered { IfOk result (λ next. NumbersRules types.new (map rule_seen rules.now)) }
-    ensures passes { IfOk result (λ next. Passes parameters.now
-        (numbered_table types.old) (numbered_table types.new) (map rule_seen rules.now)) }
-    ensures waits { IfOk result (λ next. Waits parameters.now (numbered_table types.new) (map rule_seen rules.now) next) }
-    ensures watches { IfOk result (λ next. Watches parameters.now (numbered_table types.new) (map rule_seen rules.now) stops.new) }
+    requires { IsBetween inference.now types.old stops.old now.old }
+    ensures between { IfOk result (λ next. IsBetween inference.now types.new stops.new next) }
+    ensures passes { IfOk result (λ next. Passes inference.now.parameters.now
+        (numbered_table types.old) (numbered_table types.new) (rules_seen inference.now)) }
 {
-    let mut next = Waiting::new(alloc);
+    let rules = inference.rules;
+    let mut next = Waiting::new(inference.alloc);
     // No code reads it: the invariant and the measure of the loop speak of it.
     let mut from = 0;
     while let Some(place) = now.take_least() {
-        let ready = step(alloc, parameters, types, stops, &rules[place], place)?;
+        let ready = step(inference, types, stops, &rules[place], place)?;
         wake(&ready, place, now, &mut next)?;
         from = place + 1;
     }
@@ -109,24 +112,19 @@ fn round(
 
 /// Rounds until the worklist is empty. As many rounds as there are rules are enough.
 fn rounds_from(
-    alloc: Global,
-    parameters: &[TypeParameter],
+    inference: &Inference,
     types: &mut Numbered,
-    rules: &[PlainRule],
     stops: &mut Stops,
     mut now: Waiting,
 ) -> Result<(), NoMemory>
-    requires distinct { IsDistinct (names_seen (map rule_seen rules.now)) }
-    requires numbered { NumbersRules types.old (map rule_seen rules.now) }
-    requires watches { Watches parameters.now (numbered_table types.old) (map rule_seen rules.now) stops.old }
-    requires waits { Waits parameters.now (numbered_table types.old) (map rule_seen rules.now) now }
-    ensures numbered { OnOk result (NumbersRules types.new (map rule_seen rules.now)) }
-    ensures ends { OnOk result (EndsRounds parameters.now
-        (numbered_table types.old) (numbered_table types.new) (map rule_seen rules.now) (length rules.now)) }
+    requires { IsBetween inference.now types.old stops.old now }
+    ensures numbered { OnOk result (NumbersRules types.new (rules_seen inference.now)) }
+    ensures ends { OnOk result (EndsRounds inference.now.parameters.now
+        (numbered_table types.old) (numbered_table types.new) (rules_seen inference.now) (length inference.now.rules.now)) }
 {
     // No code reads `count`: the invariant speaks of it.
-    for count in 0..rules.len() {
-        now = round(alloc, parameters, types, rules, stops, &mut now)?;
+    for count in 0..inference.rules.len() {
+        now = round(inference, types, stops, &mut now)?;
         if now.is_empty() {
             return Ok(());
         }
@@ -152,5 +150,10 @@ pub(crate) fn run_rounds(
     let mut stops = Stops::new(alloc, rules.len())?;
     let ready = stops.begin(alloc, &needs)?;
     let first = Waiting::of(alloc, &ready)?;
-    rounds_from(alloc, parameters, types, rules, &mut stops, first)
+    let inference = Inference {
+        alloc,
+        parameters,
+        rules,
+    };
+    rounds_from(&inference, types, &mut stops, first)
 }

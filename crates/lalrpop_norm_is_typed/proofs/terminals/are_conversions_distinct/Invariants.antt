@@ -1,6 +1,6 @@
 use Rattle.std.proofs.Common.{◌≡◌, drop, map}
 use Rattle.lalrpop_norm_tree.specs.Items.{conversion_view}
-use Rattle.lalrpop_norm_session.specs.Sessions.{features_view}
+use Rattle.lalrpop_norm_common.specs.Sessions.{features_view}
 use Rattle.lalrpop_norm_is_typed.specs.Terminals.{are_conversions_distinct}
 use Rattle.lalrpop_norm_is_typed.proofs.terminals.are_conversions_distinct.Given as goal
 

@@ -1,7 +1,7 @@
 use Rattle.std.proofs.Common.{◌≡◌, drop, map}
 use Rattle.std.specs.List.{list_all}
 use Rattle.lalrpop_norm_tree.specs.Items.{alternative_view}
-use Rattle.lalrpop_norm_session.specs.Sessions.{features_view}
+use Rattle.lalrpop_norm_common.specs.Sessions.{features_view}
 use Rattle.lalrpop_norm_is_typed.specs.Terminals.{source_view}
 use Rattle.lalrpop_norm_is_typed.specs.Used.{is_alternative_listed}
 use Rattle.lalrpop_norm_is_typed.proofs.used.are_alternatives_listed.Given as goal

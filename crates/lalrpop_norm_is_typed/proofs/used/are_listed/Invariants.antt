@@ -1,6 +1,6 @@
 use Rattle.std.proofs.Common.{◌≡◌, drop}
 use Rattle.lalrpop_norm_tree.specs.Symbols.{parts_view}
-use Rattle.lalrpop_norm_session.specs.Sessions.{features_view}
+use Rattle.lalrpop_norm_common.specs.Sessions.{features_view}
 use Rattle.lalrpop_norm_is_typed.specs.Terminals.{source_view}
 use Rattle.lalrpop_norm_is_typed.specs.Used.{are_listed}
 use Rattle.lalrpop_norm_is_typed.proofs.used.are_listed.Given as goal

@@ -5,7 +5,7 @@ use Rattle.lalrpop_norm_repr.specs.Tables.{rows}
 use Rattle.lalrpop_norm_lower.specs.Lowering.{start_rows, sorted_onto}
 use Rattle.lalrpop_norm_lower.specs.Made.{made_starts_faults, made_starts}
 use Rattle.lalrpop_norm_lower.specs.Starts.{start_rule, start_typed}
-use Rattle.lalrpop_norm_lower.specs.Typing.{start_types}
+use Rattle.lalrpop_norm_lower.specs.StartTypes.{start_types}
 use Rattle.lalrpop_norm_lower.specs.State.{table_by_number}
 use Rattle.lalrpop_norm_lower.proofs.nonterminals.lower_starts.Given as goal
 

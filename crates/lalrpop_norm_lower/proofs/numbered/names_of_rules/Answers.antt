@@ -2,7 +2,7 @@ use Rattle.std.proofs.Common.{List, [], ◌∷◌, map, arith}
 use Rattle.lalrpop_norm_tree.specs.declared.items.GrammarItem.{GrammarItem}
 use Rattle.lalrpop_norm_tree.specs.Items.{RuleData, item_view}
 use Rattle.lalrpop_norm_lower.specs.Lowering.{rules_among}
-use Rattle.lalrpop_norm_session.proofs.ListLemmas.{next_collected}
+use Rattle.lalrpop_norm_common.proofs.ListLemmas.{next_collected}
 use Rattle.lalrpop_norm_lower.proofs.LoopLemmas.{item_name}
 use Rattle.lalrpop_norm_lower.proofs.numbered.names_of_rules.Goals as goal
 

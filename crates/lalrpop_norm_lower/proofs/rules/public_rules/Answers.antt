@@ -3,7 +3,7 @@ use Rattle.lalrpop_norm_tree.specs.declared.items.GrammarItem.{GrammarItem}
 use Rattle.lalrpop_norm_tree.specs.declared.items.NonterminalData.{NonterminalData}
 use Rattle.lalrpop_norm_tree.specs.Items.{rule_view, item_view}
 use Rattle.lalrpop_norm_lower.specs.Lowering.{rules_among, public_rules_in}
-use Rattle.lalrpop_norm_session.proofs.ListLemmas.{next_collected}
+use Rattle.lalrpop_norm_common.proofs.ListLemmas.{next_collected}
 use Rattle.lalrpop_norm_lower.proofs.LoopLemmas.{item_public}
 use Rattle.lalrpop_norm_lower.proofs.rules.public_rules.Goals as goal
 

@@ -2,7 +2,7 @@ use Rattle.std.proofs.Common.{◌≡◌, ◌++◌, drop, map}
 use Rattle.lalrpop_norm_tree.specs.Items.{rule_view}
 use Rattle.lalrpop_norm_lower.specs.Lowering.{start_names}
 use Rattle.lalrpop_norm_lower.specs.Starts.{start_rule, start_named, start_typed}
-use Rattle.lalrpop_norm_lower.specs.Typing.{start_types}
+use Rattle.lalrpop_norm_lower.specs.StartTypes.{start_types}
 use Rattle.lalrpop_norm_lower.specs.State.{table_by_number}
 use Rattle.lalrpop_norm_lower.proofs.starts.starts_of.Given as goal
 

@@ -4,7 +4,7 @@ use Rattle.std.specs.Map.{keys_of}
 use Rattle.lalrpop_norm_tree.specs.Items.{item_view}
 use Rattle.lalrpop_norm_tree_patterns.specs.Patterns.{pattern_view}
 use Rattle.lalrpop_norm_tree_parts.specs.Reprs.{repr_view}
-use Rattle.lalrpop_norm_session.specs.Sessions.{features_view}
+use Rattle.lalrpop_norm_common.specs.Sessions.{features_view}
 use Rattle.lalrpop_norm_repr.specs.Tables.{rows}
 use Rattle.lalrpop_norm_lower.specs.Conversions.{sorted_terminals}
 use Rattle.lalrpop_norm_lower.specs.Made.{token_rows}

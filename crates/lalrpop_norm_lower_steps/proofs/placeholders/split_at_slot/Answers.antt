@@ -1,5 +1,5 @@
 use Rattle.std.proofs.Common.{drop, sym}
-use Rattle.lalrpop_norm_session.proofs.Slots.{slot_found, slot_missing}
+use Rattle.lalrpop_norm_common.proofs.Slots.{slot_found, slot_missing}
 use Rattle.lalrpop_norm_lower_steps.proofs.placeholders.split_at_slot.Goals as goal
 
 pub returns-in-Some : goal.returns-in-Some

@@ -4,7 +4,7 @@ use Rattle.std.proofs.lemmas.Grind.{flat_map-append}
 use Rattle.lalrpop_norm_tree.specs.declared.items.MatchContents.{MatchContents}
 use Rattle.lalrpop_norm_tree.specs.Items.{match_contents_view}
 use Rattle.lalrpop_norm_model.specs.TokenFaults.{names_mapped_by}
-use Rattle.lalrpop_norm_session.proofs.ListLemmas.{next_collected}
+use Rattle.lalrpop_norm_common.proofs.ListLemmas.{next_collected}
 use Rattle.lalrpop_norm_tyinfer_steps.proofs.named.group_names.Goals as goal
 
 pub loop-group-preserved : goal.loop-group-preserved

@@ -7,7 +7,7 @@ use Rattle.lalrpop_norm_tree.specs.declared.types.TypeRef.{TypeRef}
 use Rattle.lalrpop_norm_tree.specs.Types.{type_view, types_view, maybe_of}
 use Rattle.lalrpop_norm_tree.proofs.TypeViews.{symbol_is}
 use Rattle.lalrpop_norm_tree.proofs.WrittenTextLemmas.{view_slice, view_reference, view_object}
-use Rattle.lalrpop_norm_session.proofs.ListLemmas.{next_collected}
+use Rattle.lalrpop_norm_common.proofs.ListLemmas.{next_collected}
 use Rattle.lalrpop_norm_names.specs.Numbers.{number_in_table}
 use Rattle.lalrpop_norm_tyinfer_steps.specs.Needs.{needed_type, needed_types, needed_return}
 use Rattle.lalrpop_norm_tyinfer_steps.proofs.LoweredViews.{tuple_seen, nominal_seen}

@@ -4,7 +4,7 @@ use Rattle.std.proofs.lemmas.List.{map-append}
 use Rattle.lalrpop_norm_tree.specs.declared.symbol.Symbol.{Symbol}
 use Rattle.lalrpop_norm_tree.specs.Symbols.{kind_view}
 use Rattle.lalrpop_norm_model.specs.Expanded.{names_in_kind}
-use Rattle.lalrpop_norm_session.proofs.ListLemmas.{next_collected}
+use Rattle.lalrpop_norm_common.proofs.ListLemmas.{next_collected}
 use Rattle.lalrpop_norm_names.specs.Numbers.{number_in_table}
 use Rattle.lalrpop_norm_tyinfer_steps.proofs.needs.add_sources.Goals as goal
 

@@ -4,7 +4,7 @@ use Rattle.lalrpop_norm_tree.specs.declared.items.Alternative.{Alternative}
 use Rattle.lalrpop_norm_tree.specs.Items.{alternative_view}
 use Rattle.lalrpop_norm_model.specs.TypeRelation.{alternative_clause}
 use Rattle.lalrpop_norm_tyinfer_steps.specs.Clauses.{clause_view}
-use Rattle.lalrpop_norm_session.proofs.ListLemmas.{first_of_some, next_collected}
+use Rattle.lalrpop_norm_common.proofs.ListLemmas.{first_of_some, next_collected}
 use Rattle.lalrpop_norm_tyinfer_steps.proofs.type_sources.alternative_clauses.Goals as goal
 
 pub loop-alternative-preserved : goal.loop-alternative-preserved

@@ -14,7 +14,7 @@ step-requires-clause-within c =
 
 pub step-requires-clause-number : goal.step-requires-clause-number
 step-requires-clause-number c =
-    let rules = c.args.rules.now in
+    let rules = c.args.inference.now.rules.now in
     let long = length-map rules rule_seen in
     let low = c.loop-place.invariant.midway.within_now c.in-Some.place c.in-Some.ensures.there in
     let lt : c.in-Some.place < length rules = omega arith in
@@ -23,7 +23,7 @@ step-requires-clause-number c =
 
 pub step-requires-clause-told : goal.step-requires-clause-told
 step-requires-clause-told c =
-    let rules = c.args.rules.now in
+    let rules = c.args.inference.now.rules.now in
     let long = length-map rules rule_seen in
     let low = c.loop-place.invariant.midway.within_now c.in-Some.place c.in-Some.ensures.there in
     let lt : c.in-Some.place < length rules = omega arith in
@@ -31,7 +31,7 @@ step-requires-clause-told c =
 
 pub loop-place-preserved : goal.loop-place-preserved
 loop-place-preserved c =
-    let rules = c.args.rules.now in
+    let rules = c.args.inference.now.rules.now in
     let long = length-map rules rule_seen in
     let low = c.loop-place.invariant.midway.within_now c.in-Some.place c.in-Some.ensures.there in
     let lt : c.in-Some.place < length rules = omega arith in
@@ -49,46 +49,41 @@ returns-clause-passes c =
 
 pub loop-place-init : goal.loop-place-init
 loop-place-init c = record {
-  midway = midway_first c.args.parameters.now (numbered_table c.args.types.now) (map rule_seen c.args.rules.now) c.args.stops.now c.args.now.now c.new-next.result c.requires.watches c.requires.waits c.new-next.ensures;
+  midway = midway_first c.args.inference.now.parameters.now (numbered_table c.args.types.now) (map rule_seen c.args.inference.now.rules.now) c.args.stops.now c.args.now.now c.new-next.result c.requires.watches c.requires.waits c.new-next.ensures;
   numbered = c.requires.numbered;
 }
 
 pub bounds-rules-place : goal.bounds-rules-place
 bounds-rules-place c =
-    subst (λ n. c.in-Some.place < n) (length-map c.args.rules.now rule_seen) (c.loop-place.invariant.midway.within_now c.in-Some.place c.in-Some.ensures.there)
+    subst (λ n. c.in-Some.place < n) (length-map c.args.inference.now.rules.now rule_seen) (c.loop-place.invariant.midway.within_now c.in-Some.place c.in-Some.ensures.there)
 
 pub loop-place-smaller : goal.loop-place-smaller
 loop-place-smaller c =
     let low = c.loop-place.invariant.midway.ahead c.in-Some.place c.in-Some.ensures.there in
-    fewer_left (length c.args.rules.now) c.loop-place.from c.in-Some.place low
-    (subst (λ n. c.in-Some.place < n) (length-map c.args.rules.now rule_seen) (c.loop-place.invariant.midway.within_now c.in-Some.place c.in-Some.ensures.there))
+    fewer_left (length c.args.inference.now.rules.now) c.loop-place.from c.in-Some.place low
+    (subst (λ n. c.in-Some.place < n) (length-map c.args.inference.now.rules.now rule_seen) (c.loop-place.invariant.midway.within_now c.in-Some.place c.in-Some.ensures.there))
 
 pub step-requires-clause-sound : goal.step-requires-clause-sound
 step-requires-clause-sound c = c.loop-place.invariant.midway.watches.sound
 
-pub returns-clause-numbered : goal.returns-clause-numbered
-returns-clause-numbered c = c.loop-place.invariant.numbered
-
-pub returns-clause-waits : goal.returns-clause-waits
-returns-clause-waits c =
+pub returns-clause-between : goal.returns-clause-between
+returns-clause-between c =
     let none = rw c.in_default.is at c.take_least.ensures in
-    waits_next _ _ _ _ _ _ _ _ c.loop-place.invariant.midway none
-
-pub returns-clause-watches : goal.returns-clause-watches
-returns-clause-watches c = c.loop-place.invariant.midway.watches
+    record {
+      distinct = c.requires.distinct;
+      numbered = c.loop-place.invariant.numbered;
+      watches = c.loop-place.invariant.midway.watches;
+      waits = waits_next _ _ _ _ _ _ _ _ c.loop-place.invariant.midway none;
+    }
 
 pub returns-in_err-ready : goal.returns-in_err-ready
 returns-in_err-ready c = record {
-  numbered = IfOk-from_err _ _ c.from_residual.ensures.0;
+  between = IfOk-from_err _ _ c.from_residual.ensures.0;
   passes = IfOk-from_err _ _ c.from_residual.ensures.0;
-  waits = IfOk-from_err _ _ c.from_residual.ensures.0;
-  watches = IfOk-from_err _ _ c.from_residual.ensures.0;
 }
 
 pub returns-in_err-wake : goal.returns-in_err-wake
 returns-in_err-wake c = record {
-  numbered = IfOk-from_err _ _ c.from_residual-in_err-wake.ensures.0;
+  between = IfOk-from_err _ _ c.from_residual-in_err-wake.ensures.0;
   passes = IfOk-from_err _ _ c.from_residual-in_err-wake.ensures.0;
-  waits = IfOk-from_err _ _ c.from_residual-in_err-wake.ensures.0;
-  watches = IfOk-from_err _ _ c.from_residual-in_err-wake.ensures.0;
 }

@@ -6,9 +6,9 @@ use Rattle.lalrpop_norm_tyinfer.proofs.tyinfer.rounds.round.Given as goal
 
 abbrev pub invariant-loop-place : goal.invariant-loop-place
 invariant-loop-place l = record {
-  midway : Midway l.parameters (numbered_table l.initial.types) (numbered_table l.types) (map rule_seen l.rules) l.stops l.from l.now l.next;
-  numbered : NumbersRules l.types (map rule_seen l.rules);
+  midway : Midway l.inference.parameters.now (numbered_table l.initial.types) (numbered_table l.types) (map rule_seen l.inference.rules.now) l.stops l.from l.now l.next;
+  numbered : NumbersRules l.types (map rule_seen l.inference.rules.now);
 }
 
 abbrev pub decreases-loop-place : goal.decreases-loop-place
-decreases-loop-place l = length l.rules - l.from
+decreases-loop-place l = length l.inference.rules.now - l.from

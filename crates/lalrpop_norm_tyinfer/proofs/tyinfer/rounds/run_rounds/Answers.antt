@@ -21,17 +21,22 @@ begin-requires-clause-fits c =
     (need_fits (number_in_table c.args.types.now.names) c.args.parameters.now (map rule_seen c.args.rules.now) c.in_ok-needs.needs.items c.requires.numbered.numbers c.in_ok-needs.ensures n h) in
     rw c.deref.ensures.value fit
 
-pub rounds_from-requires-clause-watches : goal.rounds_from-requires-clause-watches
-rounds_from-requires-clause-watches c =
-    let begun = rw c.deref.ensures.value at c.in_ok-ready.ensures in
+pub rounds_from-requires : goal.rounds_from-requires
+rounds_from-requires c =
+    let number = number_in_table c.args.types.now.names in
+    let ps = c.args.parameters.now in
+    let tt = numbered_table c.args.types.now in
+    let ss = map rule_seen c.args.rules.now in
+    let needs = c.in_ok-needs.needs.items in
+    let stops = c.begin.new.self in
+    let ready = c.in_ok-ready.ready.items in
+    let numbers = c.requires.numbered.numbers in
     let count = c.in_ok-stops.ensures.count ∙ sym (length-map c.args.rules.now rule_seen) in
-    begins_watching (number_in_table c.args.types.now.names) c.args.parameters.now (numbered_table c.args.types.now) (map rule_seen c.args.rules.now) c.in_ok-needs.needs.items c.begin.new.self c.in_ok-ready.ready.items
-    c.requires.numbered.numbers c.in_ok-needs.ensures (subst (λ k. BeginsUntyped c.begin.new.self k c.in_ok-needs.needs.items c.in_ok-ready.ready.items) count begun) c.requires.untyped
-
-pub rounds_from-requires-clause-waits : goal.rounds_from-requires-clause-waits
-rounds_from-requires-clause-waits c =
-    let begun = rw c.deref.ensures.value at c.in_ok-ready.ensures in
-    let count = c.in_ok-stops.ensures.count ∙ sym (length-map c.args.rules.now rule_seen) in
-    begins_waiting (number_in_table c.args.types.now.names) c.args.parameters.now (numbered_table c.args.types.now) (map rule_seen c.args.rules.now) c.in_ok-needs.needs.items c.begin.new.self c.in_ok-ready.ready.items
-    c.requires.numbered.numbers c.in_ok-needs.ensures (subst (λ k. BeginsUntyped c.begin.new.self k c.in_ok-needs.needs.items c.in_ok-ready.ready.items) count begun) c.requires.untyped
-    c.in_ok-first.first (rw c.deref-2.ensures.value at c.in_ok-first.ensures.all) (rw c.deref-2.ensures.value at c.in_ok-first.ensures.only)
+    let begun = subst (λ k. BeginsUntyped stops k needs ready) count (rw c.deref.ensures.value at c.in_ok-ready.ensures) in
+    record {
+      distinct = c.requires.distinct;
+      numbered = c.requires.numbered;
+      watches = begins_watching number ps tt ss needs stops ready numbers c.in_ok-needs.ensures begun c.requires.untyped;
+      waits = begins_waiting number ps tt ss needs stops ready numbers c.in_ok-needs.ensures begun c.requires.untyped
+          c.in_ok-first.first (rw c.deref-2.ensures.value at c.in_ok-first.ensures.all) (rw c.deref-2.ensures.value at c.in_ok-first.ensures.only);
+    }

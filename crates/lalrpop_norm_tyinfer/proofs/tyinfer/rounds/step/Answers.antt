@@ -15,7 +15,7 @@ is_typed-requires c = c.requires.within
 
 pub returns-then-is_typed-clause-visits : goal.returns-then-is_typed-clause-visits
 returns-then-is_typed-clause-visits c =
-    rw c.new.ensures.items (steps_still c.args.parameters.now (numbered_table c.args.types.now) (numbered_table c.args.types.now) (rule_seen c.args.rule.now) c.args.place c.args.stops.now
+    rw c.new.ensures.items (steps_still c.args.inference.now.parameters.now (numbered_table c.args.types.now) (numbered_table c.args.types.now) (rule_seen c.args.rule.now) c.args.place c.args.stops.now
     (taken_typed (numbered_table c.args.types.now) c.args.rule.now.data.now.name.0 _ (sym c.requires.told ∙ (sym c.is_typed.ensures ∙ c.if-is_typed.true))))
 
 pub returns-then-is_typed-clause-numbers : goal.returns-then-is_typed-clause-numbers
@@ -37,7 +37,7 @@ returns-in-Some-clause-visits c =
     let untyped : type_by_name tt name ≡ None = not_some (type_by_name tt name) (sym c.requires.told ∙ (sym c.is_typed.ensures ∙ c.if-is_typed.false)) in
     let takes = put_taken c.args.types.now c.put.new.self name c.args.place (repr_view c.in-Some.ty) c.requires.number c.put.ensures _ untyped (rw c.in-Some.is at c.in_ok-ty.ensures) in
     if_ok c.give_type.result c.give_type.ensures
-    (λ ready g. steps_taken c.args.parameters.now tt (numbered_table c.put.new.self) (rule_seen c.args.rule.now) c.args.place c.args.stops.now c.give_type.new.self ready.items takes g)
+    (λ ready g. steps_taken c.args.inference.now.parameters.now tt (numbered_table c.put.new.self) (rule_seen c.args.rule.now) c.args.place c.args.stops.now c.give_type.new.self ready.items takes g)
 
 pub returns-in-Some-clause-numbers : goal.returns-in-Some-clause-numbers
 returns-in-Some-clause-numbers c =
@@ -49,7 +49,7 @@ returns-in-None-clause-visits c =
     let tt = numbered_table c.args.types.now in
     let name = c.args.rule.now.data.now.name.0 in
     let untyped : type_by_name tt name ≡ None = not_some (type_by_name tt name) (sym c.requires.told ∙ (sym c.is_typed.ensures ∙ c.if-is_typed.false)) in
-    rw c.new-in-None.ensures.items (steps_still c.args.parameters.now tt tt (rule_seen c.args.rule.now) c.args.place c.args.stops.now (taken_none tt name _ untyped (rw c.in-None.is at c.in_ok-ty.ensures)))
+    rw c.new-in-None.ensures.items (steps_still c.args.inference.now.parameters.now tt tt (rule_seen c.args.rule.now) c.args.place c.args.stops.now (taken_none tt name _ untyped (rw c.in-None.is at c.in_ok-ty.ensures)))
 
 pub returns-in-None-clause-numbers : goal.returns-in-None-clause-numbers
 returns-in-None-clause-numbers c = nothing_put c.args.types.now

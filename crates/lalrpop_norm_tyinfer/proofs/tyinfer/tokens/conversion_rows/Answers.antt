@@ -4,7 +4,7 @@ use Rattle.lalrpop_norm_tree.specs.declared.items.Conversion.{Conversion}
 use Rattle.lalrpop_norm_tree.specs.Items.{conversion_view}
 use Rattle.lalrpop_norm_model.specs.TerminalTypes.{conversion_row}
 use Rattle.lalrpop_norm_tyinfer_steps.specs.TokenTypes.{rows_seen}
-use Rattle.lalrpop_norm_session.proofs.ListLemmas.{next_collected}
+use Rattle.lalrpop_norm_common.proofs.ListLemmas.{next_collected}
 use Rattle.std.proofs.lemmas.List.{drop_all}
 use Rattle.std.proofs.lemmas.Result.{IfOk-from_err}
 use borrow.Author.Count.{falls}
