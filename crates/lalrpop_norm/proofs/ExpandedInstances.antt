@@ -1,53 +1,22 @@
 -- The terminals of generated rules are among those of the rules and macros that they are made of, and generated rules have
 -- neither arguments nor conditions.
-use Rattle.std.proofs.Common.{◌≡◌, inl, inr, ℕ, zero, suc, Bool, true, false, Option, Some, None, List, [], ◌∷◌, ◌++◌, refl, sym, subst}
+use Rattle.std.proofs.Common.{◌≡◌, inl, inr, ℕ, zero, suc, Bool, true, false, Option, Some, None, List, [], ◌∷◌, refl, sym, subst}
 use Rattle.std.specs.Prelude.{bytes_eq, if◌then◌else◌}
 use Rattle.lalrpop_norm_tree_names.specs.declared.names.NonterminalString.{NonterminalString}
 use Rattle.lalrpop_norm_tree_names.specs.declared.names.Span.{Span}
 use Rattle.lalrpop_norm_tree_names.specs.declared.names.TerminalString.{TerminalString}
 use Rattle.lalrpop_norm_tree.specs.declared.symbol.RepeatOp.TheVariants.{Star, Plus, Question, Times}
-use Rattle.lalrpop_norm_tree.specs.Symbols.{Kind, Part, Parts, group, ambiguous_id, terminal, nonterminal, call, repeated, chosen, named, tupled, error_terminal, at, no_parts, part_and}
+use Rattle.lalrpop_norm_tree.specs.Symbols.{Kind, Part, Parts, group, ambiguous_id, nonterminal, call, repeated, lookahead, lookbehind, at, no_parts, part_and}
 use Rattle.lalrpop_norm_tree.specs.Items.{AlternativeData, RuleData}
 use Rattle.lalrpop_norm_theory.specs.Rounds.{In}
-use Rattle.lalrpop_norm_theory.proofs.RoundsLemmas.{in_cases}
 use Rattle.lalrpop_norm_model.specs.Grammars.{ConditionValue, is_true}
 use Rattle.lalrpop_norm_model.specs.Reading.{read_all}
-use Rattle.lalrpop_norm_model.specs.MadeRules.{group_rule, star_rule, plus_rule, question_rule, so_many, times_rule, argument_kind, or_name, substituted, kind_substituted, all_substituted, flat_reader, instance_alternative, instance_alternatives, instance_rule, instance_of, macro_named, made_rules}
-use Rattle.lalrpop_norm_model.specs.PlainRules.{met, all_met}
-use Rattle.lalrpop_norm.proofs.ExpandedScopes.{IsOverKind, IsOver, AreOver}
+use Rattle.lalrpop_norm_model.specs.MadeRules.{group_rule, star_rule, plus_rule, question_rule, so_many, times_rule, argument_kind, or_name, substituted_leaf, all_substituted, flat_reader, instance_alternative, instance_alternatives, instance_rule, instance_of, macro_named, made_rules}
+use Rattle.lalrpop_norm_model.proofs.TraversalLemmas.{mapped_holds}
+use Rattle.lalrpop_norm.proofs.ExpandedScopes.{IsOverLeaf, IsOverKind, IsOver, AreOver}
 use Rattle.lalrpop_norm.proofs.ExpandedSymbols.{named_listed}
 
 module _ (P : TerminalString → Type 0) where
-  -- ---- what is reached
-
-  then_itself : (x q : Part) (ms : List Part) → IsOver P x → (In q ms → IsOver P q) → In q (ms ++ x ∷ []) → IsOver P q
-  then_itself x q ms h f i = elim (in_cases q ms (x ∷ []) i) [ inl j ↦ f j | inr j ↦ here j ]
-    where
-      here : In q (x ∷ []) → IsOver P q
-      here (inl e) = subst (IsOver P) (sym e) h
-      here (inr j) = absurd j
-
-  mutual
-    met_over : (p : Part) → IsOver P p → (q : Part) → In q (met p) → IsOver P q
-    met_over (at s (group ps)) h q i = then_itself (at s (group ps)) q (all_met ps) h (all_met_over ps h q) i
-    met_over (at s (call n ps)) h q i = then_itself (at s (call n ps)) q (all_met ps) h (all_met_over ps h q) i
-    met_over (at s (repeated op p)) h q i = then_itself (at s (repeated op p)) q (met p) h (met_over p h q) i
-    met_over (at s (chosen p)) h q i = met_over p h q i
-    met_over (at s (named n p)) h q i = met_over p h q i
-    met_over (at s (tupled ns p)) h q i = met_over p h q i
-    met_over (at s (ambiguous_id a)) h q i = absurd i
-    met_over (at s (terminal t)) h q i = absurd i
-    met_over (at s (nonterminal n)) h q i = absurd i
-    met_over (at s error_terminal) h q i = absurd i
-    met_over (at s k) h q i = then_itself (at s k) q [] tt (λ j. absurd j) i
-
-    pub all_met_over : (ps : Parts) → AreOver P ps → (q : Part) → In q (all_met ps) → IsOver P q
-    all_met_over no_parts h q i = absurd i
-    all_met_over (part_and p ps) h q i = elim (in_cases q (met p) (all_met ps) i) [
-      | inl j ↦ met_over p h.0 q j
-      | inr j ↦ all_met_over ps h.1 q j
-    ]
-
   -- ---- arguments substituted
 
   argument_over : (params : List NonterminalString) (ps : Parts) → AreOver P ps → (n : List ℕ) → IsOverKind P (or_name n (argument_kind params ps n))
@@ -61,25 +30,13 @@ module _ (P : TerminalString → Type 0) where
       by false o = o
 
   module _ (argument : List ℕ → Option Kind) (over : (n : List ℕ) → IsOverKind P (or_name n (argument n))) where
-    mutual
-      kind_put_over : (k : Kind) → IsOverKind P k → IsOverKind P (kind_substituted argument k)
-      kind_put_over (nonterminal n) h = over n
-      kind_put_over (ambiguous_id n) h = over n
-      kind_put_over (terminal t) h = h
-      kind_put_over (group ps) h = all_put_over ps h
-      kind_put_over (call n ps) h = all_put_over ps h
-      kind_put_over (repeated op p) h = put_over p h
-      kind_put_over (chosen p) h = put_over p h
-      kind_put_over (named n p) h = put_over p h
-      kind_put_over (tupled ns p) h = put_over p h
-      kind_put_over _ h = tt
+    leaf_over : (k : Kind) → IsOverKind P k → IsOverKind P (substituted_leaf argument k)
+    leaf_over (nonterminal n) h = over n
+    leaf_over (ambiguous_id n) h = over n
+    leaf_over _ h = h
 
-      put_over : (p : Part) → IsOver P p → IsOver P (substituted argument p)
-      put_over (at s k) h = kind_put_over k h
-
-      all_put_over : (ps : Parts) → AreOver P ps → AreOver P (all_substituted argument ps)
-      all_put_over no_parts h = tt
-      all_put_over (part_and p ps) h = (put_over p h.0, all_put_over ps h.1)
+    all_put_over : (ps : Parts) → AreOver P ps → AreOver P (all_substituted argument ps)
+    all_put_over = mapped_holds (IsOverLeaf P) (IsOverLeaf P) (substituted_leaf argument) leaf_over
 
   -- ---- generated rules
 
@@ -135,11 +92,6 @@ module _ (P : TerminalString → Type 0) where
     made_fit (at s (repeated Plus p)) h r i = only_fit (plus_rule s p) r refl ((refl, (h, tt)), ((refl, (h, (h, tt))), tt)) i
     made_fit (at s (repeated Question p)) h r i = only_fit (question_rule s p) r refl ((refl, (h, tt)), ((refl, tt), tt)) i
     made_fit (at s (repeated (Times n) p)) h r i = only_fit (times_rule s n p) r refl ((refl, many_over n p h), tt) i
-    made_fit (at s (ambiguous_id a)) h r i = absurd i
-    made_fit (at s (terminal t)) h r i = absurd i
-    made_fit (at s (nonterminal n)) h r i = absurd i
-    made_fit (at s (chosen p)) h r i = absurd i
-    made_fit (at s (named n p)) h r i = absurd i
-    made_fit (at s (tupled ns p)) h r i = absurd i
-    made_fit (at s error_terminal) h r i = absurd i
-    made_fit (at s k) h r i = sole_fit _ r i refl ((refl, tt), tt)
+    made_fit (at s lookahead) h r i = sole_fit _ r i refl ((refl, tt), tt)
+    made_fit (at s lookbehind) h r i = sole_fit _ r i refl ((refl, tt), tt)
+    made_fit (at s _) h r i = absurd i

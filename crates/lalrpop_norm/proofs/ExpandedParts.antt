@@ -1,69 +1,33 @@
--- Symbols whose terminals and names are among given ones, and in which no open identifier occurs: what is reached in them is such
--- again, and what they are replaced by is plain.
-use Rattle.std.proofs.Common.{◌≡◌, inl, inr, ℕ, true, ◌&&◌, List, [], ◌∷◌, ◌++◌, refl, ap₂, sym, subst}
+-- Symbols whose terminals and names are among given ones, and in which no open identifier occurs: what they are replaced by is plain.
+use Rattle.std.proofs.Common.{◌≡◌, inl, inr, ℕ, true, ◌&&◌, List, [], ◌∷◌, refl, ap₂, sym, subst}
 use Rattle.lalrpop_norm_tree_names.specs.declared.names.Span.{Span}
 use Rattle.lalrpop_norm_tree_names.specs.declared.names.TerminalString.{TerminalString}
-use Rattle.lalrpop_norm_tree.specs.Symbols.{Kind, Part, Parts, group, ambiguous_id, terminal, nonterminal, call, repeated, chosen, named, tupled, error_terminal, at, no_parts, part_and}
+use Rattle.lalrpop_norm_tree.specs.Symbols.{Kind, Part, Parts, ambiguous_id, terminal, nonterminal, chosen, named, tupled, at, no_parts, part_and}
 use Rattle.lalrpop_norm_theory.specs.Rounds.{In}
 use Rattle.lalrpop_norm_theory.proofs.RoundsLemmas.{in_cases}
 use Rattle.lalrpop_norm_model.specs.Replaced.{replaced_kind, replaced, all_replaced}
-use Rattle.lalrpop_norm_model.specs.PlainRules.{met, all_met}
 use Rattle.lalrpop_norm_model.specs.Terminals.{terminals_in, terminals_in_parts}
 use Rattle.lalrpop_norm_model.specs.Expanded.{is_plain_terminal, is_plain_kind, is_plain, are_plain}
+use Rattle.lalrpop_norm_model.proofs.TraversalLemmas.{HoldsOfKind, HoldsOfPart, HoldsOfParts}
 
 -- ---- the predicate
 
 -- At every depth a terminal is one of P, a name that is no macro's one of N; no open identifier occurs there.
 module _ (P : TerminalString → Type 0) (N : List ℕ → Type 0) where
-  abbrev mutual
-    pub IsReadyKind : Kind → Type 0
-    IsReadyKind (terminal t) = P t
-    IsReadyKind (nonterminal n) = N n
-    IsReadyKind (ambiguous_id a) = ⊥
-    IsReadyKind (call n ps) = AreReady ps
-    IsReadyKind (group ps) = AreReady ps
-    IsReadyKind (repeated op p) = IsReady p
-    IsReadyKind (chosen p) = IsReady p
-    IsReadyKind (named n p) = IsReady p
-    IsReadyKind (tupled ns p) = IsReady p
-    IsReadyKind _ = Unit {0}
+  abbrev pub IsReadyLeaf : Kind → Type 0
+  IsReadyLeaf (terminal t) = P t
+  IsReadyLeaf (nonterminal n) = N n
+  IsReadyLeaf (ambiguous_id a) = ⊥
+  IsReadyLeaf _ = Unit {0}
 
-    pub IsReady : Part → Type 0
-    IsReady (at s k) = IsReadyKind k
+  abbrev pub IsReadyKind : Kind → Type 0
+  IsReadyKind = HoldsOfKind IsReadyLeaf
 
-    pub AreReady : Parts → Type 0
-    AreReady no_parts = Unit {0}
-    AreReady (part_and p ps) = IsReady p × AreReady ps
+  abbrev pub IsReady : Part → Type 0
+  IsReady = HoldsOfPart IsReadyLeaf
 
-  -- ---- what is reached
-
-  itself : (x q : Part) → IsReady x → In q (x ∷ []) → IsReady q
-  itself x q h (inl e) = subst IsReady (sym e) h
-  itself x q h (inr i) = absurd i
-
-  then_itself : (ms : List Part) (x q : Part) → IsReady x → (In q ms → IsReady q) → In q (ms ++ x ∷ []) → IsReady q
-  then_itself ms x q h f i = elim (in_cases q ms (x ∷ []) i) [ inl j ↦ f j | inr j ↦ itself x q h j ]
-
-  mutual
-    pub met_ready : (p : Part) → IsReady p → (q : Part) → In q (met p) → IsReady q
-    met_ready (at s (group ps)) h q i = then_itself (all_met ps) (at s (group ps)) q h (λ j. all_met_ready ps h q j) i
-    met_ready (at s (call n ps)) h q i = then_itself (all_met ps) (at s (call n ps)) q h (λ j. all_met_ready ps h q j) i
-    met_ready (at s (repeated op p)) h q i = then_itself (met p) (at s (repeated op p)) q h (λ j. met_ready p h q j) i
-    met_ready (at s (chosen p)) h q i = met_ready p h q i
-    met_ready (at s (named n p)) h q i = met_ready p h q i
-    met_ready (at s (tupled ns p)) h q i = met_ready p h q i
-    met_ready (at s (ambiguous_id a)) h q i = absurd i
-    met_ready (at s (terminal t)) h q i = absurd i
-    met_ready (at s (nonterminal n)) h q i = absurd i
-    met_ready (at s error_terminal) h q i = absurd i
-    met_ready (at s k) h q i = itself (at s k) q tt i
-
-    pub all_met_ready : (ps : Parts) → AreReady ps → (q : Part) → In q (all_met ps) → IsReady q
-    all_met_ready no_parts h q i = absurd i
-    all_met_ready (part_and p ps) h q i = elim (in_cases q (met p) (all_met ps) i) [
-      | inl j ↦ met_ready p h.0 q j
-      | inr j ↦ all_met_ready ps h.1 q j
-    ]
+  abbrev pub AreReady : Parts → Type 0
+  AreReady = HoldsOfParts IsReadyLeaf
 
   -- ---- plain symbols
 

@@ -18,8 +18,8 @@ use Rattle.lalrpop_norm_model.proofs.FaithfulLemmas.{plain_grammars_hold_plain_r
 use Rattle.lalrpop_norm.proofs.ExpandedParts.{IsReady, AreReady, parts_plain}
 use Rattle.lalrpop_norm.proofs.ExpandedSymbols.{Covered, parts_named, made_settled}
 use Rattle.lalrpop_norm.proofs.ExpandedRounds.{made_within, written_named, start_covered, made_covered, inside_covered}
-use Rattle.lalrpop_norm.proofs.ExpandedScopes.{IsOver, AreOver, from_all, part_ready, parts_ready, alternative_ready}
-use Rattle.lalrpop_norm.proofs.ExpandedInstances.{all_met_over, IsFitMade, made_fit}
+use Rattle.lalrpop_norm.proofs.ExpandedScopes.{IsOver, AreOver, all_met_over, from_all, part_ready, parts_ready, alternative_ready}
+use Rattle.lalrpop_norm.proofs.ExpandedInstances.{IsFitMade, made_fit}
 use Rattle.lalrpop_norm_model.proofs.RoundReadLemmas.{made_symbols_are_scoped, made_rules_scoped}
 use Rattle.lalrpop_norm.proofs.ExpandedTokens.{HasTokens, plain_tokens}
 

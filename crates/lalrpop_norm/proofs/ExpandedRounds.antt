@@ -1,7 +1,9 @@
 -- What is reached in a whole expansion has a rule of its text; and what holds of all that is reached holds of all that is made.
-use Rattle.std.proofs.Common.{◌≡◌, ◌⊎◌, inl, inr, ℕ, zero, suc, Bool, List, [], ◌∷◌, ◌++◌, map, reverse, refl, ap, sym, subst, ◌∙◌}
-use Rattle.std.specs.Prelude.{flat_map}
-use Rattle.lalrpop_norm_tree.specs.Symbols.{Part, Parts, group, ambiguous_id, terminal, nonterminal, call, repeated, chosen, named, tupled, error_terminal, at, no_parts, part_and}
+use Rattle.std.proofs.Common.{◌≡◌, ◌⊎◌, inl, inr, ℕ, zero, suc, Bool, true, false, List, [], ◌∷◌, ◌++◌, map, reverse, refl, ap, sym, subst, ◌∙◌}
+use Rattle.std.specs.Prelude.{flat_map, if◌then◌else◌}
+use Rattle.lalrpop_norm_tree_names.specs.declared.names.Span.{Span}
+use Rattle.lalrpop_norm_tree.specs.Symbols.{Kind, Part, Parts, at}
+use Rattle.lalrpop_norm_tree.specs.Traversal.{inner}
 use Rattle.lalrpop_norm_tree.specs.SymbolTexts.{part_text}
 use Rattle.lalrpop_norm_tree.specs.Items.{AlternativeData, RuleData, GrammarData}
 use Rattle.lalrpop_norm_theory.specs.Symbols.{Name, ClosedSymbol}
@@ -10,10 +12,10 @@ use Rattle.lalrpop_norm_theory.specs.Met.{rule_meets, expanded_symbols}
 use Rattle.lalrpop_norm_theory.specs.Laws.{IsWhole}
 use Rattle.lalrpop_norm_theory.proofs.RoundsLemmas.{in_left, in_right, in_cases, in_flat, of_flat, of_reverse, fresh_listed}
 use Rattle.lalrpop_norm_theory.proofs.Expansion.{nothing_new_whole}
-use Rattle.lalrpop_norm_theory.proofs.ListLemmas.{in_one}
 use Rattle.lalrpop_norm_model.specs.ClosedTexts.{closed_text}
 use Rattle.lalrpop_norm_model.specs.Grammars.{ConditionValue}
 use Rattle.lalrpop_norm_model.specs.MadeRules.{made_rules}
+use Rattle.lalrpop_norm_model.specs.Replaced.{is_desugared}
 use Rattle.lalrpop_norm_model.specs.PlainRules as plain
 use Rattle.lalrpop_norm_model.specs.PlainRules.{met, all_met, met_in_rule, met_by_made, same_apart_from_spans, rules_without_arguments, macros_of, made_symbols, made_in, replaced_rule, plain_rules, plain_grammar}
 use Rattle.lalrpop_norm_model.specs.PlainTables.{IsSettled, flat_meaning, declared, closed}
@@ -21,6 +23,7 @@ use Rattle.lalrpop_norm_model.specs.Expanded.{rule_names}
 use Rattle.lalrpop_norm_model.proofs.LevelLemmas.{in_map, of_map}
 use Rattle.lalrpop_norm_model.proofs.TextLemmas.{part_displayed}
 use Rattle.lalrpop_norm_model.proofs.MadeReadLemmas.{made_rules_are_read}
+use Rattle.lalrpop_norm_model.proofs.MetLemmas.{met_level, all_met_hold}
 use Rattle.lalrpop_norm_model.proofs.MetReadLemmas.{met_is_read}
 use Rattle.lalrpop_norm_model.proofs.RoundReadLemmas.{rounds_are_read, made_symbols_are_scoped}
 use Rattle.lalrpop_norm_model.proofs.FaithfulLemmas.{plain_grammars_hold_plain_rules}
@@ -68,32 +71,22 @@ module _ {A : Type 0} (same : A → A → Bool) (meets : A → List A) (start : 
 
 -- ---- what is reached within what is reached
 
-then_itself : (x p q : Part) (ms : List Part) → met x ≡ ms ++ x ∷ [] → (In p ms → In q ms) → In p (ms ++ x ∷ []) → In q (met p) → In q (ms ++ x ∷ [])
-then_itself x p q ms e f i j = elim (in_cases p ms (x ∷ []) i) [
-  | inl k ↦ in_left q ms (x ∷ []) (f k)
-  | inr k ↦ subst (λ (ys : List Part). In q ys) e (subst (λ (y : Part). In q (met y)) (in_one p x k) j)
-]
+-- what is reached is among ms
+abbrev AreMet : List Part → List Part → Type 0
+AreMet ms ns = (q : Part) → In q ns → In q ms
 
-mutual
-  met_within : (x p q : Part) → In p (met x) → In q (met p) → In q (met x)
-  met_within (at s (group ps)) p q i j = then_itself (at s (group ps)) p q (all_met ps) refl (λ k. all_met_within ps p q k j) i j
-  met_within (at s (call n ps)) p q i j = then_itself (at s (call n ps)) p q (all_met ps) refl (λ k. all_met_within ps p q k j) i j
-  met_within (at s (repeated op x)) p q i j = then_itself (at s (repeated op x)) p q (met x) refl (λ k. met_within x p q k j) i j
-  met_within (at s (chosen x)) p q i j = met_within x p q i j
-  met_within (at s (named n x)) p q i j = met_within x p q i j
-  met_within (at s (tupled ns x)) p q i j = met_within x p q i j
-  met_within (at s (ambiguous_id a)) p q i j = absurd i
-  met_within (at s (terminal t)) p q i j = absurd i
-  met_within (at s (nonterminal n)) p q i j = absurd i
-  met_within (at s error_terminal) p q i j = absurd i
-  met_within (at s k) p q i j = then_itself (at s k) p q [] refl (λ x. absurd x) i j
+met_inside : (ms : List Part) (s : Span) (k : Kind) → AreMet ms (met (at s k)) → AreMet ms (all_met (inner k))
+met_inside ms s k h q i = h q (subst (λ (ns : List Part). In q ns) (sym (met_level s k)) (by (is_desugared k)))
+  where
+    by : (b : Bool) → In q (if b then all_met (inner k) ++ at s k ∷ [] else all_met (inner k))
+    by true = in_left q (all_met (inner k)) (at s k ∷ []) i
+    by false = i
 
-  all_met_within : (ps : Parts) (p q : Part) → In p (all_met ps) → In q (met p) → In q (all_met ps)
-  all_met_within no_parts p q i j = absurd i
-  all_met_within (part_and x ps) p q i j = elim (in_cases p (met x) (all_met ps) i) [
-    | inl k ↦ in_left q (met x) (all_met ps) (met_within x p q k j)
-    | inr k ↦ in_right q (met x) (all_met ps) (all_met_within ps p q k j)
-  ]
+all_met_within : (ps : Parts) (p q : Part) → In p (all_met ps) → In q (met p) → In q (all_met ps)
+all_met_within ps p q i j =
+    all_met_hold (λ x. AreMet (all_met ps) (met x)) (λ x. AreMet (all_met ps) (met x)) (λ xs. AreMet (all_met ps) (all_met xs))
+    (λ x xs h y k. h y (in_left y (met x) (all_met xs) k)) (λ x xs h y k. h y (in_right y (met x) (all_met xs) k)) (met_inside (all_met ps))
+    (λ s k e h. h) ps (λ y k. k) p i q j
 
 rules_meet_within : (ds : List RuleData) (p q : Part) → In p (flat_map met_in_rule ds) → In q (met p) → In q (flat_map met_in_rule ds)
 rules_meet_within ds p q i j =

@@ -4,21 +4,22 @@ use Rattle.std.proofs.Common.{◌≡◌, inl, inr, ℕ, suc, Bool, true, false, 
 use Rattle.std.specs.Prelude.{flat_map, if◌then◌else◌}
 use Rattle.lalrpop_norm_tree_names.specs.declared.names.TerminalString.{TerminalString}
 use Rattle.lalrpop_norm_tree_names.specs.declared.names.TerminalString.TheVariants.{Bare}
-use Rattle.lalrpop_norm_tree.specs.Symbols.{Kind, Part, Parts, group, ambiguous_id, terminal, nonterminal, call, repeated, chosen, named, tupled, at, no_parts, part_and}
+use Rattle.lalrpop_norm_tree.specs.Symbols.{Kind, Parts, ambiguous_id}
 use Rattle.lalrpop_norm_tree.specs.Items.{AlternativeData, RuleData, ItemData, GrammarData, match_item, extern_item, intern_item, rule_item, use_item}
 use Rattle.lalrpop_norm_theory.specs.Rounds.{In}
 use Rattle.lalrpop_norm_theory.proofs.RoundsLemmas.{in_cases, of_flat}
 use Rattle.lalrpop_norm_model.specs.Features.{Features, is_active}
 use Rattle.lalrpop_norm_model.specs.Enabled.{PlacedAlternatives, present, if_active, all_places, enabled_rule, enabled_item, enabled_grammar}
-use Rattle.lalrpop_norm_model.specs.Scopes.{a_rule, a_macro, a_terminal, Global, globals, Sense, an_argument, a_global, sense_of, by_sense, resolved_kind, resolved_part, resolved_parts, resolved_alternative, resolved_rule, resolved_item, resolved_grammar}
+use Rattle.lalrpop_norm_model.specs.Scopes.{a_rule, a_macro, a_terminal, Global, globals, Sense, an_argument, a_global, sense_of, by_sense, resolved_leaf, resolved_parts, resolved_alternative, resolved_rule, resolved_item, resolved_grammar}
 use Rattle.lalrpop_norm_model.specs.Levels.{Leveled, with_levels, leveled_at, map_numbered, levels_of, previous_level, has_levels}
-use Rattle.lalrpop_norm_model.specs.LevelRules.{leveled_kind, leveled_part, leveled_parts, is_own, level_alternative, step_alternatives, of_level, level_rule, level_rules, leveled_grammar}
+use Rattle.lalrpop_norm_model.specs.LevelRules.{is_own, level_alternative, step_alternatives, of_level, level_rule, level_rules, leveled_grammar}
 use Rattle.lalrpop_norm_model.specs.PlainRules.{rule_of_item, all_rules}
 use Rattle.lalrpop_norm_model.specs.Expanded.{declared_symbols}
 use Rattle.lalrpop_norm_model.proofs.LevelLemmas.{of_map}
 use Rattle.lalrpop_norm_model.proofs.GrammarLemmas.{all_level_rules}
 use Rattle.lalrpop_norm_model.proofs.LevelGrammarLemmas.{of_level_in}
-use Rattle.lalrpop_norm.proofs.ExpandedScopes.{IsOverKind, IsOver, AreOver}
+use Rattle.lalrpop_norm_model.proofs.TraversalLemmas.{mapped_holds, leveled_holds}
+use Rattle.lalrpop_norm.proofs.ExpandedScopes.{IsOverLeaf, IsOverKind, AreOver}
 
 -- a rule with no symbol in its type, whose terminals are among those of P
 pub record IsFitRule (P : TerminalString → Type 0) (r : RuleData) : Type 0 where
@@ -77,24 +78,12 @@ module _ (P : TerminalString → Type 0) (sense : List ℕ → Option Sense) (ba
   name_over a (Some (a_global a_terminal)) e = bare a e
   name_over a (Some (a_global (a_macro n))) e = tt
 
-  mutual
-    resolved_kind_over : (k : Kind) → IsOverKind P k → IsOverKind P (resolved_kind sense k)
-    resolved_kind_over (ambiguous_id a) h = name_over a (sense a) refl
-    resolved_kind_over (terminal t) h = h
-    resolved_kind_over (group ps) h = resolved_over ps h
-    resolved_kind_over (call n ps) h = resolved_over ps h
-    resolved_kind_over (repeated op p) h = resolved_part_over p h
-    resolved_kind_over (chosen p) h = resolved_part_over p h
-    resolved_kind_over (named n p) h = resolved_part_over p h
-    resolved_kind_over (tupled ns p) h = resolved_part_over p h
-    resolved_kind_over _ h = tt
+  leaf_over : (k : Kind) → IsOverKind P k → IsOverKind P (resolved_leaf sense k)
+  leaf_over (ambiguous_id a) h = name_over a (sense a) refl
+  leaf_over _ h = h
 
-    resolved_part_over : (p : Part) → IsOver P p → IsOver P (resolved_part sense p)
-    resolved_part_over (at s k) h = resolved_kind_over k h
-
-    resolved_over : (ps : Parts) → AreOver P ps → AreOver P (resolved_parts sense ps)
-    resolved_over no_parts h = tt
-    resolved_over (part_and p ps) h = (resolved_part_over p h.0, resolved_over ps h.1)
+  resolved_over : (ps : Parts) → AreOver P ps → AreOver P (resolved_parts sense ps)
+  resolved_over = mapped_holds (IsOverLeaf P) (IsOverLeaf P) (resolved_leaf sense) leaf_over
 
 module _ (P : TerminalString → Type 0) (bare : (a : List ℕ) → P (Bare a)) (g : GrammarData) where
   resolved_fit : (r : RuleData) → IsFitRule P r → IsFitRule P (resolved_rule (globals g) r)
@@ -123,30 +112,6 @@ module _ (P : TerminalString → Type 0) (bare : (a : List ℕ) → P (Bare a)) 
 
 -- ---- with levels
 
-module _ (P : TerminalString → Type 0) (own : List ℕ → Bool) (level : ℕ → ℕ → Kind) (fits : (before after : ℕ) → IsOverKind P (level before after)) where
-  occurrence_over : (x : Bool) (before after : ℕ) (n : List ℕ) → IsOverKind P (if x then level before after else nonterminal n)
-  occurrence_over true before after n = fits before after
-  occurrence_over false before after n = tt
-
-  mutual
-    leveled_kind_over : (before after : ℕ) (k : Kind) → IsOverKind P k → IsOverKind P (leveled_kind own level before after k)
-    leveled_kind_over before after (nonterminal n) h = occurrence_over (own n) before after n
-    leveled_kind_over before after (terminal t) h = h
-    leveled_kind_over before after (group ps) h = leveled_over before after ps h
-    leveled_kind_over before after (call n ps) h = leveled_over before after ps h
-    leveled_kind_over before after (repeated op p) h = leveled_part_over before after p h
-    leveled_kind_over before after (chosen p) h = leveled_part_over before after p h
-    leveled_kind_over before after (named n p) h = leveled_part_over before after p h
-    leveled_kind_over before after (tupled ns p) h = leveled_part_over before after p h
-    leveled_kind_over before after _ h = tt
-
-    leveled_part_over : (before after : ℕ) (p : Part) → IsOver P p → IsOver P (leveled_part own level before after p)
-    leveled_part_over before after (at s k) h = leveled_kind_over before after k h
-
-    leveled_over : (before after : ℕ) (ps : Parts) → AreOver P ps → AreOver P (leveled_parts own level before after ps)
-    leveled_over before after no_parts h = tt
-    leveled_over before after (part_and p ps) h = (leveled_part_over before _ p h.0, leveled_over _ after ps h.1)
-
 -- what is leveled at an index is an alternative that is there
 numbered_from : (ps : PlacedAlternatives) (k : ℕ) (xs : List AlternativeData) (a : Leveled) → In a (present (map_numbered (leveled_at ps) k (map Some xs))) → In a.alternative xs
 numbered_from ps k [] a i = absurd i
@@ -158,7 +123,7 @@ module _ (P : TerminalString → Type 0) (d : RuleData) (f : IsFitRule P d) wher
   ps = with_levels (all_places d)
 
   level_alternative_fit : (a : Leveled) → In a.alternative d.alternatives → AreOver P (level_alternative d ps a).parts
-  level_alternative_fit a i = leveled_over P (is_own d) _ (λ before after. tt) 0 0 a.alternative.parts (f.over a.alternative i)
+  level_alternative_fit a i = leveled_holds (IsOverLeaf P) (is_own d) _ (λ before after. tt) 0 0 a.alternative.parts (f.over a.alternative i)
 
   step_fit : (o : Option ℕ) (a : AlternativeData) → In a (step_alternatives d ps o) → AreOver P a.parts
   step_fit None a i = absurd i

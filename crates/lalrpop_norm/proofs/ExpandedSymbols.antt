@@ -1,12 +1,13 @@
 -- Where each symbol that is reached has a rule of its text, each name in what symbols are replaced by has a rule: in
 -- alternatives, and in the types that generated rules declare.
-use Rattle.std.proofs.Common.{◌≡◌, inl, inr, ℕ, Bool, true, false, Option, Some, None, List, [], ◌∷◌, ◌++◌, map, refl, sym, subst}
+use Rattle.std.proofs.Common.{◌≡◌, inl, inr, ℕ, Bool, true, false, Option, Some, None, List, [], ◌∷◌, ◌++◌, map, refl, ap, sym, subst, ◌∙◌}
 use Rattle.std.specs.Prelude.{flat_map, option_map, option_to_list, bytes_eq, if◌then◌else◌}
 use Rattle.lalrpop_norm_tree_names.specs.declared.names.NonterminalString.{NonterminalString}
 use Rattle.lalrpop_norm_tree_names.specs.declared.names.Span.{Span}
 use Rattle.lalrpop_norm_tree_names.specs.declared.names.TerminalString.{TerminalString}
 use Rattle.lalrpop_norm_tree.specs.declared.symbol.RepeatOp.TheVariants.{Star, Plus, Question, Times}
-use Rattle.lalrpop_norm_tree.specs.Symbols.{Kind, Part, Parts, group, ambiguous_id, terminal, nonterminal, call, repeated, chosen, named, tupled, error_terminal, at, no_parts, part_and}
+use Rattle.lalrpop_norm_tree.specs.Symbols.{Kind, Part, Parts, group, ambiguous_id, terminal, nonterminal, call, repeated, chosen, named, tupled, lookahead, lookbehind, error_terminal, at, no_parts, part_and}
+use Rattle.lalrpop_norm_tree.specs.Traversal.{inner}
 use Rattle.lalrpop_norm_tree.specs.SymbolTexts.{kind_text, part_text}
 use Rattle.lalrpop_norm_tree.specs.Types.{TypeData, TypesData, MaybeType, tuple, slice, nominal, reference, trait_object, of_lifetime, id, of_symbol, function, no_types, type_and, no_type, returns, types_of}
 use Rattle.lalrpop_norm_tree.specs.Items.{RuleData}
@@ -15,14 +16,18 @@ use Rattle.lalrpop_norm_theory.proofs.RoundsLemmas.{in_left, in_right, in_cases}
 use Rattle.lalrpop_norm_theory.proofs.ListLemmas.{in_one}
 use Rattle.lalrpop_norm_model.specs.Grammars.{ConditionValue}
 use Rattle.lalrpop_norm_model.specs.MadeRules.{kind_of, chosen_kinds, all_kinds, if_any, group_sources, type_of_kind, bare_or_tuple, group_rule, star_rule, plus_rule, question_rule, times_rule, argument_kind, type_of_name, type_substituted, types_substituted, returned_substituted, instance_rule, instance_of, macro_named, made_rules}
-use Rattle.lalrpop_norm_model.specs.Replaced.{replaced_kind, replaced, all_replaced}
+use Rattle.lalrpop_norm_model.specs.Replaced.{is_desugared, replaced_kind, replaced, all_replaced}
 use Rattle.lalrpop_norm_model.specs.PlainRules.{met, all_met}
 use Rattle.lalrpop_norm_model.specs.Expanded.{is_plain_terminal, is_plain_kind, names_in_kind, names_in, names_in_parts, symbols_in, symbols_in_all, symbols_in_return, declared_symbols}
 use Rattle.lalrpop_norm_model.proofs.InferenceLemmas.{both_empty}
+use Rattle.lalrpop_norm_model.proofs.MetLemmas.{met_level}
 use Rattle.lalrpop_norm.proofs.ExpandedParts.{IsReadyKind, IsReady, AreReady, kind_plain}
 
-last : {A : Type 0} (xs : List A) (x : A) → In x (xs ++ x ∷ [])
-last xs x = in_right x xs (x ∷ []) (inl refl)
+-- a symbol that is desugared is reached
+itself_met : (s : Span) (k : Kind) → is_desugared k ≡ true → In (at s k) (met (at s k))
+itself_met s k e =
+    subst (λ (ms : List Part). In (at s k) ms) (sym (met_level s k ∙ ap (λ b. if b then all_met (inner k) ++ at s k ∷ [] else all_met (inner k)) e))
+    (in_right (at s k) (all_met (inner k)) (at s k ∷ []) (inl refl))
 
 -- ---- macros and their arguments
 
@@ -114,9 +119,6 @@ module _ (P : TerminalString → Type 0) (plain : (t : TerminalString) → P t �
 
   mutual
     kind_named : (s : Span) (k : Kind) → IsReadyKind P Named k → Covered (met (at s k)) → (n : List ℕ) → In n (names_in_kind (replaced_kind k)) → Named n
-    kind_named s (group ps) h c n i = same_name n (kind_text (group ps)) (c (at s (group ps)) (last (all_met ps) (at s (group ps)))) i
-    kind_named s (call m ps) h c n i = same_name n (kind_text (call m ps)) (c (at s (call m ps)) (last (all_met ps) (at s (call m ps)))) i
-    kind_named s (repeated op p) h c n i = same_name n (kind_text (repeated op p)) (c (at s (repeated op p)) (last (met p) (at s (repeated op p)))) i
     kind_named s (chosen p) h c n i = part_named p h c n i
     kind_named s (named m p) h c n i = part_named p h c n i
     kind_named s (tupled ns p) h c n i = part_named p h c n i
@@ -124,7 +126,7 @@ module _ (P : TerminalString → Type 0) (plain : (t : TerminalString) → P t �
     kind_named s (terminal t) h c n i = absurd i
     kind_named s (nonterminal m) h c n i = same_name n m h i
     kind_named s error_terminal h c n i = absurd i
-    kind_named s k h c n i = same_name n (kind_text k) (c (at s k) (inl refl)) i
+    kind_named s k h c n i = same_name n (kind_text k) (c (at s k) (itself_met s k refl)) i
 
     part_named : (p : Part) → IsReady P Named p → Covered (met p) → (n : List ℕ) → In n (names_in (replaced p)) → Named n
     part_named (at s k) h c n i = kind_named s k h c n i
@@ -223,11 +225,6 @@ module _ (P : TerminalString → Type 0) (plain : (t : TerminalString) → P t �
   made_settled value macros bare (at s (repeated Plus p)) h c r i k j = of_only (plus_rule s p) r (one_symbol p h (covered_left (met p) (at s (repeated Plus p) ∷ []) c)) i k j
   made_settled value macros bare (at s (repeated Question p)) h c r i k j = of_only (question_rule s p) r (one_symbol p h (covered_left (met p) (at s (repeated Question p) ∷ []) c)) i k j
   made_settled value macros bare (at s (repeated (Times n) p)) h c r i k j = of_only (times_rule s n p) r (one_symbol p h (covered_left (met p) (at s (repeated (Times n) p) ∷ []) c)) i k j
-  made_settled value macros bare (at s (ambiguous_id a)) h c r i k j = absurd i
-  made_settled value macros bare (at s (terminal t)) h c r i k j = absurd i
-  made_settled value macros bare (at s (nonterminal n)) h c r i k j = absurd i
-  made_settled value macros bare (at s (chosen p)) h c r i k j = absurd i
-  made_settled value macros bare (at s (named n p)) h c r i k j = absurd i
-  made_settled value macros bare (at s (tupled ns p)) h c r i k j = absurd i
-  made_settled value macros bare (at s error_terminal) h c r i k j = absurd i
-  made_settled value macros bare (at s x) h c r i k j = sole_settled _ r i (λ y m. absurd m) k j
+  made_settled value macros bare (at s lookahead) h c r i k j = sole_settled _ r i (λ y m. absurd m) k j
+  made_settled value macros bare (at s lookbehind) h c r i k j = sole_settled _ r i (λ y m. absurd m) k j
+  made_settled value macros bare (at s _) h c r i k j = absurd i

@@ -1,6 +1,6 @@
 -- What a written grammar without faults says of its enabled grammar: its tokens are as the pass on tokens asks, nothing in it
 -- names the error terminal, and no symbol occurs in a declared type.
-use Rattle.std.proofs.Common.{◌≡◌, ◌<◌, ◌≤◌, inl, inr, ℕ, Bool, true, false, not, ◌||◌, List, [], ◌∷◌, ◌++◌, length, map, Option, Some, None, refl, ap, sym, subst, ◌∙◌, arith}
+use Rattle.std.proofs.Common.{◌≡◌, ◌<◌, ◌≤◌, inl, inr, ℕ, Bool, true, false, not, ◌||◌, List, [], ◌∷◌, ◌++◌, length, map, Option, Some, None, refl, ap, sym, subst, ◌∙◌, append-nil, arith}
 use Rattle.std.specs.Prelude.{flat_map, filter, filter_map, option_map, option_to_list, is_some, if◌then◌else◌}
 use Rattle.std.specs.List.{list_any}
 use Rattle.std.proofs.lemmas.Grind.{flat_map-append}
@@ -18,7 +18,8 @@ use Rattle.lalrpop_norm_tree.specs.declared.items.MatchMapping.TheVariants.{Term
 use Rattle.lalrpop_norm_tree.specs.Items.{AlternativeData, RuleData, AssociatedTypeData, ConversionData, EnumTokenData, ExternTokenData, MatchTokenData, InternTokenData, ItemData, GrammarData, match_item, extern_item, intern_item, rule_item, use_item}
 use Rattle.lalrpop_norm_tree.specs.LoweredTypes.{holds_symbol, any_holds_symbol, result_holds_symbol}
 use Rattle.lalrpop_norm_tree_patterns.specs.Patterns as pattern
-use Rattle.lalrpop_norm_tree.specs.Symbols.{Kind, Part, Parts, group, terminal, call, repeated, chosen, named, tupled, at, no_parts, part_and}
+use Rattle.lalrpop_norm_tree.specs.Symbols.{Kind, Parts, group, terminal, call, lookahead, lookbehind, error_terminal, at, part_and}
+use Rattle.lalrpop_norm_tree.specs.Traversal.{inner}
 use Rattle.lalrpop_norm_tree.specs.Types.{TypeData, TypesData, MaybeType, ParameterData, tuple, slice, nominal, reference, trait_object, of_lifetime, id, of_symbol, function, no_types, type_and, no_type, returns}
 use Rattle.lalrpop_norm_theory.specs.Rounds.{In}
 use Rattle.lalrpop_norm_theory.proofs.RoundsLemmas.{in_cases, of_flat}
@@ -37,13 +38,14 @@ use Rattle.lalrpop_norm_model.proofs.EnteredTokens.{groups_names}
 use Rattle.lalrpop_norm_model.proofs.LevelLemmas.{of_map}
 use Rattle.lalrpop_norm_model.proofs.GrammarLemmas.{rule_item_of}
 use Rattle.lalrpop_norm_model.proofs.InferenceLemmas.{both_empty, none_made, in_filtered}
+use Rattle.lalrpop_norm_model.proofs.TraversalLemmas.{each_parts, fold_level, holds_around}
 use Rattle.lalrpop_norm_prevalidate.specs.TypeFaults.{some_holds, parameter_holds, bound_holds, clause_holds, kind_holds, pattern_holds, patterns_hold, fields_hold}
-use Rattle.lalrpop_norm_prevalidate.specs.SymbolFaults.{terminal_faults, call_faults, kind_faults, part_faults, parts_faults, beside_faults, list_faults}
+use Rattle.lalrpop_norm_prevalidate.specs.SymbolFaults.{terminal_faults, call_faults, own_faults, kind_faults, parts_faults, beside_faults, list_faults}
 use Rattle.lalrpop_norm_prevalidate.specs.AlternativeFaults.{alternative_faults}
 use Rattle.lalrpop_norm_prevalidate.specs.GrammarFaults.{rule_faults, mapping_faults, match_beside_extern_faults, match_faults, associated_faults, types_faults, conversion_faults, enum_faults, extern_faults, is_known_type, unknown_grammar_faults, parameter_faults, clause_faults, is_match, is_extern, item_faults, items_faults, enum_span, surroundings_of, blocks_in, validate_faults}
 use Rattle.lalrpop_norm_prevalidate.specs.Walks.{types_along, items_along}
 use Rattle.lalrpop_norm_prevalidate.proofs.PlaceLemmas.{types_placed, items_placed}
-use Rattle.lalrpop_norm.proofs.ExpandedScopes.{IsOverKind, IsOver, AreOver}
+use Rattle.lalrpop_norm.proofs.ExpandedScopes.{IsOverLeaf, IsOverKind, AreOver}
 use Rattle.lalrpop_norm.proofs.ExpandedTokens.{HasTokens}
 use Rattle.lalrpop_norm.proofs.ExpandedSteps.{AreFitRules, enabled_rules_fit}
 
@@ -474,25 +476,36 @@ module _ (g : GrammarData) where
   terminal_over s (Bare a) f = refl
   terminal_over s Error f = absurd (cc f)
 
-  mutual
-    kind_over : (s : Span) (k : Kind) → kind_faults (surroundings_of g) s k ≡ [] → IsOverKind IsPlainTerminal k
-    kind_over s (terminal t) f = terminal_over s t f
-    kind_over s (group ps) f = parts_over ps (both_empty (parts_faults (surroundings_of g) ps) (beside_faults ps) f).0
-    kind_over s (call n ps) f = parts_over ps (both_empty (call_faults s ps) (parts_faults (surroundings_of g) ps) f).1
-    kind_over s (repeated op p) f = part_over p f
-    kind_over s (chosen p) f = part_over p f
-    kind_over s (named n p) f = part_over p f
-    kind_over s (tupled ns p) f = part_over p f
-    kind_over s _ f = tt
+  leaf_over : (s : Span) (k : Kind) → kind_faults (surroundings_of g) s k ≡ [] → IsOverLeaf IsPlainTerminal k
+  leaf_over s (terminal t) f = terminal_over s t f
+  leaf_over s _ f = tt
 
-    part_over : (p : Part) → part_faults (surroundings_of g) p ≡ [] → IsOver IsPlainTerminal p
-    part_over (at s k) f = kind_over s k f
+  none_within : (s : Span) (k : Kind) → own_faults (surroundings_of g) s k (parts_faults (surroundings_of g) (inner k)) ≡ [] → parts_faults (surroundings_of g) (inner k) ≡ []
+  none_within s (group ps) f = (both_empty (parts_faults (surroundings_of g) ps) (beside_faults ps) f).0
+  none_within s (call n ps) f = (both_empty (call_faults s ps) (parts_faults (surroundings_of g) ps) f).1
+  none_within s (terminal t) f = refl
+  none_within s lookahead f = refl
+  none_within s lookbehind f = refl
+  none_within s error_terminal f = refl
+  none_within s _ f = f
 
-    parts_over : (ps : Parts) → parts_faults (surroundings_of g) ps ≡ [] → AreOver IsPlainTerminal ps
-    parts_over no_parts f = tt
-    parts_over (part_and p ps) f =
-        let two = both_empty (part_faults (surroundings_of g) p) (parts_faults (surroundings_of g) ps) f in
-        (part_over p two.0, parts_over ps two.1)
+  abbrev BecomesOver : Kind → Type 0
+  BecomesOver k = (s : Span) → kind_faults (surroundings_of g) s k ≡ [] → IsOverKind IsPlainTerminal k
+
+  abbrev BecomeOver : Parts → Type 0
+  BecomeOver ps = parts_faults (surroundings_of g) ps ≡ [] → AreOver IsPlainTerminal ps
+
+  more_over : (s : Span) (k : Kind) (ps : Parts) → BecomesOver k → BecomeOver ps → BecomeOver (part_and (at s k) ps)
+  more_over s k ps h t f =
+      let two = both_empty (kind_faults (surroundings_of g) s k) (parts_faults (surroundings_of g) ps) f in
+      (h s two.0, t two.1)
+
+  over_around : (k : Kind) → BecomeOver (inner k) → BecomesOver k
+  over_around k h s f =
+      holds_around (IsOverLeaf IsPlainTerminal) k (leaf_over s k f) (h (none_within s k (sym (fold_level (own_faults (surroundings_of g)) [] (λ xs ys. xs ++ ys) append-nil s k) ∙ f)))
+
+  parts_over : (ps : Parts) → parts_faults (surroundings_of g) ps ≡ [] → AreOver IsPlainTerminal ps
+  parts_over = each_parts BecomesOver BecomeOver (λ f. tt) more_over over_around
 
 -- ---- the grammar
 

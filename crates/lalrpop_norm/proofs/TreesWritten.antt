@@ -7,7 +7,8 @@ use Rattle.std.proofs.lemmas.List.Elements.{filter-append}
 use Rattle.lalrpop_norm_tree_names.specs.declared.names.NonterminalString.{NonterminalString}
 use Rattle.lalrpop_norm_tree.specs.Items.{RuleData, GrammarData}
 use Rattle.lalrpop_norm_tree.specs.Symbols as written
-use Rattle.lalrpop_norm_tree.specs.Symbols.{Kind, Part, Parts, at, no_parts, part_and}
+use Rattle.lalrpop_norm_tree.specs.Symbols.{Kind, Parts}
+use Rattle.lalrpop_norm_tree.specs.Traversal.{inner}
 use Rattle.lalrpop_norm_tree_names.specs.Texts.{joined}
 use Rattle.lalrpop_norm_theory.specs.Symbols.{Name, ClosedSymbol, ClosedSymbols, reference, call, group, star, plus, question, times, wrapped, no_symbols, symbol_and}
 use Rattle.lalrpop_norm_theory.specs.Meaning.{Meaning}
@@ -26,7 +27,7 @@ use Rattle.lalrpop_norm_model.specs.Scopes.{is_argument}
 use Rattle.lalrpop_norm_model.specs.Levels.{Leveled, has_levels, with_levels, levels_of, highest_level}
 use Rattle.lalrpop_norm_model.specs.WrittenRules.{WrittenRule, rule_named, written_rules, leveled_rules, flat_rules}
 use Rattle.lalrpop_norm_model.specs.Grammars.{ConditionValue, is_nil, has_arguments, is_own_level, rule_parts, place_count, previous_bound, meaning, rule_references, references, rule_roots, roots}
-use Rattle.lalrpop_norm_model.specs.Scoped.{is_rule, is_macro_for, is_scoped_kind, is_scoped, are_scoped, NamesAreScoped, IsScoped}
+use Rattle.lalrpop_norm_model.specs.Scoped.{is_rule, is_macro_for, is_scoped_with, is_scoped_kind, are_scoped, NamesAreScoped, IsScoped}
 use Rattle.lalrpop_norm_model.specs.ClosedTexts.{closed_text, closed_texts, wrapped_text, level_name, named_level, level_names, reference_name, text_in}
 use Rattle.lalrpop_norm_model.specs.LevelRules.{level_of_rule, level_rule, level_rules, leveled_grammar}
 use Rattle.lalrpop_norm_model.specs.PlainRules.{all_rules, plain_grammar, plain_rules, IsEnded}
@@ -36,7 +37,8 @@ use Rattle.lalrpop_norm_model.specs.LevelNames.{HasLevelNames, level_origin}
 use Rattle.lalrpop_norm_model.specs.Renumbered.{prepared_grammar, closed_up, rank_by, ranked_clause}
 use Rattle.lalrpop_norm_model.specs.Expanded.{rule_names}
 use Rattle.lalrpop_norm_model.proofs.LevelLemmas.{in_map, of_map, in_present, level_had, had_level, highest_is_greatest}
-use Rattle.lalrpop_norm_model.proofs.ScopeLemmas.{in_flat, meanings_are_resolved}
+use Rattle.lalrpop_norm_model.proofs.ScopeLemmas.{scoped_level, in_flat, meanings_are_resolved}
+use Rattle.lalrpop_norm_model.proofs.TraversalLemmas.{each_parts}
 use Rattle.lalrpop_norm_model.proofs.WrittenLemmas.{scoped_as_written}
 use Rattle.lalrpop_norm_model.proofs.MeaningLemmas.{meaning_has_counts, meaning_has_levels}
 use Rattle.lalrpop_norm_model.proofs.LevelRuleLemmas.{name_highest}
@@ -197,24 +199,18 @@ module _ (ws : List WrittenRule) where
   macro_closed qs (Some w) = refl
 
   module _ (args : List NonterminalString) where
-    mutual
-      kind_closed : (k : Kind) → is_scoped_kind (map closed_up ws) args k ≡ is_scoped_kind ws args k
-      kind_closed (written.nonterminal n) = ap (λ o. is_argument args n || is_rule o) (named_closed ws n) ∙ rule_closed (is_argument args n) (rule_named ws n)
-      kind_closed (written.call n qs) =
-          ap₂ (λ x y. not (is_argument args n) && (x && y)) (ap (is_macro_for qs) (named_closed ws n) ∙ macro_closed qs (rule_named ws n)) (parts_closed qs)
-      kind_closed (written.group qs) = parts_closed qs
-      kind_closed (written.repeated op p) = part_closed p
-      kind_closed (written.chosen p) = part_closed p
-      kind_closed (written.named n p) = part_closed p
-      kind_closed (written.tupled ns p) = part_closed p
-      kind_closed _ = refl
+    with_closed : (k : Kind) (x : Bool) → is_scoped_with (map closed_up ws) args k x ≡ is_scoped_with ws args k x
+    with_closed (written.nonterminal n) x =
+        ap (λ o. is_argument args n || is_rule o) (named_closed ws n) ∙ rule_closed (is_argument args n) (rule_named ws n)
+    with_closed (written.call n qs) x =
+        ap (λ y. not (is_argument args n) && (y && x)) (ap (is_macro_for qs) (named_closed ws n) ∙ macro_closed qs (rule_named ws n))
+    with_closed _ x = refl
 
-      part_closed : (p : Part) → is_scoped (map closed_up ws) args p ≡ is_scoped ws args p
-      part_closed (at s k) = kind_closed k
-
-      parts_closed : (qs : Parts) → are_scoped (map closed_up ws) args qs ≡ are_scoped ws args qs
-      parts_closed no_parts = refl
-      parts_closed (part_and p qs) = ap₂ ◌&&◌ (part_closed p) (parts_closed qs)
+    parts_closed : (qs : Parts) → are_scoped (map closed_up ws) args qs ≡ are_scoped ws args qs
+    parts_closed =
+        each_parts (λ k. is_scoped_kind (map closed_up ws) args k ≡ is_scoped_kind ws args k) (λ qs. are_scoped (map closed_up ws) args qs ≡ are_scoped ws args qs)
+        refl (λ s k qs e f. ap₂ ◌&&◌ e f)
+        (λ k e. scoped_level (map closed_up ws) args k ∙ with_closed k (are_scoped (map closed_up ws) args (inner k)) ∙ ap (is_scoped_with ws args k) e ∙ sym (scoped_level ws args k))
 
   names_open : NamesAreScoped (map closed_up ws) → NamesAreScoped ws
   names_open names w a i j =

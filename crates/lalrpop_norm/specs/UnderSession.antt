@@ -10,8 +10,8 @@ use Rattle.lalrpop_norm_theory.specs.Symbols.{Name}
 use Rattle.lalrpop_norm_model.specs.Enabled.{enabled_grammar}
 use Rattle.lalrpop_norm_model.specs.LexerFaults.{LexerPlace}
 use Rattle.lalrpop_norm_model.specs.Lexers.{Lexer}
-use Rattle.lalrpop_norm_session.specs.Sessions.{features_view}
-use Rattle.lalrpop_norm_session.specs.declared.session.Session.{Session}
+use Rattle.lalrpop_norm_common.specs.Sessions.{features_view}
+use Rattle.lalrpop_norm_common.specs.declared.session.Session.{Session}
 use Rattle.lalrpop_norm_repr.specs.Lowered.{LoweredGrammar}
 use Rattle.lalrpop_norm_explain.specs.Laws.{CallsFit}
 use Rattle.lalrpop_norm.specs.Faithful.{IsFaithful, grammar_of_plain_rules, origins_of_actions, written_meaning, written_name}

@@ -1,12 +1,12 @@
 //! The whole way from a written grammar to its lowered one, and the passes that can be used by themselves.
 
 pub use crate::passes::{normalize, normalize_traced};
+pub use lalrpop_norm_common::{Session, norm_util};
 pub use lalrpop_norm_faults::{FaultKind, NormError, NormFailure, NormResult};
 pub use lalrpop_norm_is_expanded::is_expanded;
 pub use lalrpop_norm_macro_expand::macro_expand;
 pub use lalrpop_norm_prevalidate::prevalidate;
 pub use lalrpop_norm_resolve::resolve;
-pub use lalrpop_norm_session::{Session, norm_util};
 pub use lalrpop_norm_token_check::token_check;
 
 /// What the features of a session leave of a grammar, and where its alternatives come from.

@@ -2,7 +2,7 @@
 ghost use Rattle.std.specs.Prelude.{◌≡◌, IfOk};
 ghost use Rattle.lalrpop_norm_faults.specs.Faults.{Refuses, RefusesAmong};
 ghost use Rattle.lalrpop_norm_tree.specs.Items.{grammar_view};
-ghost use Rattle.lalrpop_norm_session.specs.Sessions.{features_view};
+ghost use Rattle.lalrpop_norm_common.specs.Sessions.{features_view};
 ghost use Rattle.lalrpop_norm_repr.specs.Lowered.{lowered_grammar_view};
 ghost use Rattle.lalrpop_norm_repr.specs.Closed.{IsClosed};
 ghost use Rattle.lalrpop_norm_model.specs.Expanded.{IsExpanded};
@@ -16,6 +16,7 @@ ghost use Rattle.lalrpop_norm.specs.UnderSession.{StandsUnder, early_faults_unde
 ghost use Rattle.lalrpop_norm.specs.UnderSession.{plain_under, root_names_under};
 
 use crate::traced::{Plain, names_of_written_rules, origins_in_order};
+use lalrpop_norm_common::Session;
 use lalrpop_norm_explain::{Traced, with_origins};
 use lalrpop_norm_faults::NormResult;
 use lalrpop_norm_lexer::lexer::Lexer;
@@ -26,7 +27,6 @@ use lalrpop_norm_precedence::precedence::{expand_precedence, expand_precedence_t
 use lalrpop_norm_prevalidate::cond_comp::{remove_disabled_decls, remove_disabled_traced};
 use lalrpop_norm_prevalidate::prevalidate::validate;
 use lalrpop_norm_repr::grammar::repr;
-use lalrpop_norm_session::Session;
 use lalrpop_norm_token_check::token_check;
 use lalrpop_norm_tree::grammar::parse_tree;
 use lalrpop_norm_tyinfer::tyinfer::infer_types_numbered;

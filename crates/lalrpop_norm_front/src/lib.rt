@@ -2,8 +2,8 @@
 //! All of it is re-exported; each pass is in the crate of its name.
 #![tactic(auto)]
 
+pub use lalrpop_norm_common::{Session, norm_util};
 pub use lalrpop_norm_faults::{FaultKind, NormError, NormFailure, NormResult, refusal};
 pub use lalrpop_norm_precedence::precedence;
 pub use lalrpop_norm_prevalidate::{cond_comp, prevalidate};
 pub use lalrpop_norm_resolve::resolve;
-pub use lalrpop_norm_session::{Session, norm_util};

@@ -1,6 +1,6 @@
 use Rattle.std.proofs.lemmas.Result.{IfOk-weaker}
 use Rattle.lalrpop_norm_tree.specs.Items as written
-use Rattle.lalrpop_norm_session.specs.Sessions.{features_view}
+use Rattle.lalrpop_norm_common.specs.Sessions.{features_view}
 use Rattle.lalrpop_norm.specs.PlainLaws.{PassesExpansion}
 use Rattle.lalrpop_norm.proofs.PassLemmas.{where_none, names_exit, levels_answer, expansion_refuses, expansion_passes, expansion_plain}
 use Rattle.lalrpop_norm.proofs.passes.expand.Goals as goal

@@ -2,7 +2,7 @@ use Rattle.std.proofs.Common.{ap, ◌∙◌, [], map}
 use Rattle.std.specs.Prelude.{flat_map}
 use Rattle.lalrpop_norm_tree.specs.Items as written
 use Rattle.lalrpop_norm_tree.specs.Items.{item_view}
-use Rattle.lalrpop_norm_session.specs.Sessions.{features_view}
+use Rattle.lalrpop_norm_common.specs.Sessions.{features_view}
 use Rattle.lalrpop_norm_origins.specs.Origins.{origin_lists}
 use Rattle.lalrpop_norm.specs.Roots.{plain_names, with_rule_names}
 use Rattle.lalrpop_norm.proofs.PassLemmas.{names_exit, levels_answer, expansion_passes, expansion_plain}

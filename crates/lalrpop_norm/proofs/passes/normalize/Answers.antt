@@ -1,7 +1,7 @@
 use Rattle.std.proofs.Common.{sym, subst}
 use Rattle.std.proofs.lemmas.Result.{IfOk-weaker}
 use Rattle.lalrpop_norm_tree.specs.Items as written
-use Rattle.lalrpop_norm_session.specs.Sessions.{features_view}
+use Rattle.lalrpop_norm_common.specs.Sessions.{features_view}
 use Rattle.lalrpop_norm_repr.specs.Lowered as lowered
 use Rattle.lalrpop_norm.specs.Passed.{IsPlain}
 use Rattle.lalrpop_norm.proofs.PassLemmas.{sure_exit, told_behind, plain_is_plain, refused_alike, passed, passed_faithful}
