@@ -31,7 +31,8 @@ use Rattle.lalrpop_norm_json.proofs.ListBack.{◌⊛◌, same, is_null, items_in
 use Rattle.lalrpop_norm_json.proofs.NameBack.{text_in, texts_back, span_in, nonterminal_in, nonterminal_back, literal_in, literal_back}
 use Rattle.lalrpop_norm_json.proofs.NameBack.{terminal_in, terminal_back, attribute_list_in, attributes_back, parameter_in, parameters_back}
 use Rattle.lalrpop_norm_json.proofs.NameBack.{visibility_in, visibility_back, mapping_in, mapping_back}
-use Rattle.lalrpop_norm_json.proofs.TypeBack.{group_in, parts_back, type_in, type_back, maybe_type_back, grammar_parameter_in, grammar_parameter_back}
+use Rattle.lalrpop_norm_json.proofs.SymbolLaws.{group_in, parts_back}
+use Rattle.lalrpop_norm_json.proofs.TypeBack.{type_in, type_back, maybe_type_back, grammar_parameter_in, grammar_parameter_back}
 use Rattle.lalrpop_norm_json.proofs.ClauseBack.{where_clause_in, where_clause_back}
 use Rattle.lalrpop_norm_json.proofs.PatternBack.{pattern_in, pattern_back}
 

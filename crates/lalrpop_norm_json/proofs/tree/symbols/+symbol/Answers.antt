@@ -4,16 +4,19 @@ use Rattle.json.specs.Reads.{token_of}
 use Rattle.serde_json.specs.Data.{Data, array, object, member, no_members}
 use Rattle.json_records.specs.Reading.{list_form, under}
 use Rattle.lalrpop_norm_tree.specs.declared.symbol.Name.{Name}
+use Rattle.lalrpop_norm_tree.specs.declared.symbol.RepeatSymbol.{RepeatSymbol}
 use Rattle.lalrpop_norm_tree.specs.declared.symbol.Symbol.{Symbol}
+use Rattle.lalrpop_norm_tree.specs.declared.symbol.SymbolKind.TheVariants as kind
 use Rattle.lalrpop_norm_tree.specs.declared.symbol.Tuple.{Tuple}
-use Rattle.lalrpop_norm_tree.specs.Symbols.{kind_view, symbol_view, tuple_view}
-use Rattle.lalrpop_norm_tree.proofs.SymbolViews.{symbol_seen, group_seen}
+use Rattle.lalrpop_norm_tree.specs.Symbols.{repeated, Again, kind_view, symbol_view, repeat_view, tuple_view}
+use Rattle.lalrpop_norm_tree.proofs.KindLevels.{repeat_is, named_is, tupled_is}
+use Rattle.lalrpop_norm_tree.proofs.SymbolViews.{symbol_seen, group_seen, repeat_seen}
 use Rattle.lalrpop_norm_json.specs.Forms.{span_form, nonterminal_form}
 use Rattle.lalrpop_norm_json.specs.SymbolForms.{kind_form, part_form, group_form, op_form, name_form, tuple_form}
 use Rattle.lalrpop_norm_json.specs.Shapes as shape
 use Rattle.lalrpop_norm_json.specs.Shapes.{is, one, many}
 use Rattle.lalrpop_norm_json.proofs.FormLemmas.{parts_items}
-use Rattle.lalrpop_norm_json.proofs.KindViews.{call_seen, again_seen, named_seen, tupled_seen}
+use Rattle.lalrpop_norm_json.proofs.CallViews.{call_seen}
 use Rattle.lalrpop_norm_json.proofs.Loops as loop
 use Rattle.json_records.proofs.Turns as turn
 use Rattle.lalrpop_norm_json.proofs.Steps as step
@@ -364,13 +367,16 @@ repeated-returns-in_default-repeated t c =
 pub repeated-returns : goal.repeated-returns
 repeated-returns t c =
     let l = c.loop-repeated in
+    let b = c.in_ok-new.field-0 in
     let d = object (member (codes "op") (op_form c.in-Some-op.op) (member (codes "symbol") (part_form (symbol_view c.in-Some-repeated.repeated)) no_members)) in
     record {
       ok = loop.variant_of _ _ (λ (e : Data). e) _ _ _ _ _ (codes "Repeat") (Some d) d _ refl refl
           (loop.record_whole _ (λ (e : Data). e) _ _ _ _ _ _ _ _ l.strays (told_some _ _ _ _ c.in-Some.is c.in_ok-depth.ensures.ok) l.invariant
           (told_none _ _ _ c.in_default-2.is c.in_ok-key.ensures.ok) (op_form c.in-Some-op.op ∷ part_form (symbol_view c.in-Some-repeated.repeated) ∷ []) d c.if-strays.false
           (rw (c.in-Some-op.is, c.in-Some-repeated.is) refl) refl)
-          (ap kind_form (sym (again_seen c.in-Some-op.op c.in-Some-repeated.repeated c.in_ok-new.field-0 c.in_ok-new.ensures.ok)));
+          (ap kind_form
+          (sym (repeat_is (kind.Repeat b) b refl ∙ ap (λ (r : RepeatSymbol). repeated (repeat_view r).0 (repeat_view r).1) c.in_ok-new.ensures.ok
+          ∙ ap (λ (r : Again). repeated r.0 r.1) (repeat_seen c.in-Some-op.op c.in-Some-repeated.repeated))));
       err = turn.never_refused;
       shorter = turn.no_more l.invariant.so_far.shorter c.in_ok-key.ensures.shorter;
     }
@@ -465,7 +471,7 @@ named-returns-in_ok-new-in-Some-both t c =
     (told_none _ _ _ c.in_default-2.is c.in_ok-first.ensures.ok) c.if-place-ne2.false name_form (λ s. part_form (symbol_view s)) c.loop-of.names c.loop-of.of c.both.result
     c.both.ensures c.loop-of.invariant)
     (ap (λ (s : Symbol). under (codes "Name") (named_form (c.in-Some-both.names, s))) (sym c.in_ok-new-in-Some-both.ensures.ok) ∙ ap kind_form
-    (sym (named_seen c.in-Some-both.names c.in_ok-new-in-Some-both.field-0))))
+    (sym (named_is (kind.Name c.in-Some-both.names c.in_ok-new-in-Some-both.field-0) c.in-Some-both.names c.in_ok-new-in-Some-both.field-0 refl))))
     (turn.no_more c.loop-of.invariant.so_far.shorter c.in_ok-first.ensures.shorter)
 
 pub named-returns-in_err-new-in-Some-both-clause-ok : goal.named-returns-in_err-new-in-Some-both-clause-ok
@@ -558,7 +564,7 @@ tupled-returns-in_ok-new-in-Some-both t c =
     (told_none _ _ _ c.in_default-2.is c.in_ok-first.ensures.ok) c.if-place-ne2.false (λ t. tuple_form (tuple_view t)) (λ s. part_form (symbol_view s)) c.loop-of.names c.loop-of.of
     c.both.result c.both.ensures c.loop-of.invariant)
     (ap (λ (s : Symbol). under (codes "Tuple") (tupled_form (c.in-Some-both.names, s))) (sym c.in_ok-new-in-Some-both.ensures.ok) ∙ ap kind_form
-    (sym (tupled_seen c.in-Some-both.names c.in_ok-new-in-Some-both.field-0))))
+    (sym (tupled_is (kind.Tuple c.in-Some-both.names c.in_ok-new-in-Some-both.field-0) c.in-Some-both.names c.in_ok-new-in-Some-both.field-0 refl))))
     (turn.no_more c.loop-of.invariant.so_far.shorter c.in_ok-first.ensures.shorter)
 
 pub tupled-returns-in_err-new-in-Some-both-clause-ok : goal.tupled-returns-in_err-new-in-Some-both-clause-ok

@@ -2,7 +2,7 @@ use Rattle.std.proofs.Common.{◌≡◌, [], ◌∷◌, codes, rules, refl, ap, 
 use Rattle.lalrpop_norm_json.specs.Shapes as shape
 use Rattle.lalrpop_norm_json.specs.Shapes.{one}
 use Rattle.lalrpop_norm_json.proofs.Shaped.{no_record, told_none, told_some}
-use Rattle.lalrpop_norm_json.proofs.tree.types.TreeReadsParameter.read.Goals as goal
+use Rattle.lalrpop_norm_json.proofs.tree.type_reads.TreeReadsParameter.read.Goals as goal
 
 pub returns-in-None-clause-ok : goal.returns-in-None-clause-ok
 returns-in-None-clause-ok c =
