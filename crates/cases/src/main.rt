@@ -4,7 +4,33 @@
 //! lines that begin with `#` say nothing. docs/work/CASES.md has the calls and what each one prints.
 #![tactic(auto)]
 
+mod answer;
+mod asks;
+mod back;
+mod copies;
+mod cut;
+mod cuts;
+mod damage;
+mod faults;
+mod library_call;
+mod look_ups;
+mod made;
+mod outcome;
+mod passes;
+mod patterns;
+mod runs;
 mod script;
+mod scripted;
+mod scripted_lexer;
+mod spans;
+mod stop;
+mod tables;
+mod text;
+mod texts;
+mod twice;
+mod types;
+mod values;
+mod without_memory;
 
 use script::answers;
 use std::io;

@@ -1,31 +1,46 @@
 //! The answers to a script.
-use lnorm_cases::answer::{Text, push_answer};
-use lnorm_cases::script::{is_case, words_of};
+use crate::answer::push_answer;
+use crate::text::Text;
+use std::alloc::{AllocError, Global};
 use std::{fs, io};
 
 /// Room for a word that says why a call has no answer, for the case that all further allocations fail.
 const ROOM: usize = 16;
 
-/// The answers to the lines of a script, each under its line.
-pub fn answers(rt: &HostRuntime, script: &str) -> io::Result<String> {
-    let mut text = Text::new(rt.alloc());
+/// The answers to the lines of a script, each under its line. Blank lines have none, and remarks, which begin with `#`.
+pub(crate) fn answers(rt: &HostRuntime, script: &str) -> io::Result<String> {
+    let mut text = Text {
+        text: String::new(rt.alloc()),
+        is_whole: true,
+    };
     for line in script.lines() {
         if is_case(line) {
-            push_case(rt, &mut text, line);
+            text.show_line("== ", line);
+            text.reserve(ROOM);
+            match words_of(rt.alloc(), line) {
+                Ok(words) => push_words(rt, &mut text, &words),
+                Err(_) => text.is_whole = false,
+            }
         }
     }
     Ok(text.finish()?)
 }
 
-fn push_case(rt: &HostRuntime, text: &mut Text, line: &str) {
-    text.put("== ");
-    text.put(line);
-    text.put("\n");
-    text.reserve(ROOM);
-    match words_of(rt.alloc(), line) {
-        Ok(words) => push_words(rt, text, &words),
-        Err(_) => text.lack(),
+/// Whether a line is a case, and not blank or a remark.
+fn is_case(line: &str) -> bool {
+    match line.split_whitespace().next() {
+        Some(first) => !first.starts_with("#"),
+        None => false,
     }
+}
+
+/// The words of a line.
+fn words_of(alloc: Global, line: &str) -> Result<Vec<String>, AllocError> {
+    let mut words = Vec::new(alloc);
+    for word in line.split_whitespace() {
+        words.push(String::from_str(alloc, word)?)?;
+    }
+    Ok(words)
 }
 
 /// The answer to the words of a line.
