@@ -1,7 +1,7 @@
 -- What a run over streams reads, and why it ends without a text.
 use Rattle.std.specs.Prelude.{◌≡◌, ℕ, List, Option, IsUtf8, ◌⊎◌}
 use Rattle.lalrpop_norm_tree.specs.Items.{GrammarData}
-use Rattle.lalrpop_norm_session.specs.Sessions.{features_view}
+use Rattle.lalrpop_norm_common.specs.Sessions.{features_view}
 use Rattle.lnorm_run.specs.Answers.{IsFormOf}
 use Rattle.lnorm_run.specs.Settings.{Settings}
 use Rattle.lnorm_streams.specs.Streams.{ReadsAll, WritesFront}

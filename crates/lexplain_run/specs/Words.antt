@@ -1,7 +1,7 @@
 -- What the arguments ask for.
 use Rattle.std.specs.Prelude.{◌≡◌, ℕ, List, ◌∷◌, Some, false, codes}
-use Rattle.lalrpop_norm_session.specs.Sessions.{features_view}
-use Rattle.lalrpop_norm_session.specs.declared.session.Session.{Session}
+use Rattle.lalrpop_norm_common.specs.Sessions.{features_view}
+use Rattle.lalrpop_norm_common.specs.declared.session.Session.{Session}
 use Rattle.lalrpop_norm_model.specs.Features.{Features}
 use Rattle.lnorm_run.specs.Settings.{Settings, settings_of}
 use Rattle.lexplain_run.specs.declared.words.Way.{Way}

@@ -1,7 +1,7 @@
 //! Two derivation trees that show a grammar ambiguous, as it was written.
 ghost use Rattle.std.specs.Prelude.{◌≡◌, ◌++◌, IfOk, IfErr, OnOk, string_bytes};
 ghost use Rattle.lalrpop_norm_tree.specs.Items.{grammar_view};
-ghost use Rattle.lalrpop_norm_session.specs.Sessions.{features_view};
+ghost use Rattle.lalrpop_norm_common.specs.Sessions.{features_view};
 ghost use Rattle.lalrpop_norm_explain.specs.Trees.{lowered_view, written_view};
 ghost use Rattle.lexplain_run.specs.Answers.{ShowsAmbiguity};
 ghost use Rattle.lexplain_run.specs.Refusals.{StopsShowing};

@@ -2,7 +2,7 @@
 ghost use Rattle.std.specs.Prelude.{◌≡◌, ◌⊎◌, ℕ, List, IfOk, IfErr, IsErrOf, string_bytes};
 ghost use Rattle.lalrpop_norm_tree.specs.Items.{grammar_view};
 ghost use Rattle.lalrpop_norm_faults.specs.declared.failure.NormFailure.TheVariants.{Memory};
-ghost use Rattle.lalrpop_norm_session.specs.Sessions.{features_view};
+ghost use Rattle.lalrpop_norm_common.specs.Sessions.{features_view};
 ghost use Rattle.lalrpop_norm_explain.specs.Trees.{lowered_view, written_view};
 ghost use Rattle.lnorm_run.specs.Answers.{IsFormOf};
 ghost use Rattle.lnorm_run.specs.Settings.{Settings};

@@ -1,7 +1,7 @@
 use Rattle.std.proofs.Common.{rules, subst, sym}
 use Rattle.std.proofs.lemmas.Result.{err_from_is_err_and}
 use Rattle.lalrpop_norm_tree.specs.Items.{grammar_view}
-use Rattle.lalrpop_norm_session.specs.Sessions.{features_view}
+use Rattle.lalrpop_norm_common.specs.Sessions.{features_view}
 use Rattle.lalrpop_norm_explain.specs.Trees.{lowered_view, written_view}
 use Rattle.lexplain_run.specs.Refusals.{AreNoLines}
 use Rattle.lexplain_run.specs.Words.{settings_asked}

@@ -1,6 +1,6 @@
 use Rattle.std.proofs.lemmas.Result.{err_from_is_err_and}
 use Rattle.lalrpop_norm_tree.specs.Items.{grammar_view}
-use Rattle.lalrpop_norm_session.specs.Sessions.{features_view}
+use Rattle.lalrpop_norm_common.specs.Sessions.{features_view}
 use Rattle.lalrpop_norm_explain.specs.TracedGrammars.{grammar_in, grammar_of, is_root}
 use Rattle.lalrpop_norm_explain.specs.Trees.{lowered_view, written_view}
 use Rattle.lnorm_run.proofs.FaultlessLemmas.{no_fault_stands}
