@@ -10,7 +10,7 @@ ghost use Rattle.json_records.specs.Readers.{NotJsonOnlyIfNoData, LeavesNoMore};
 use crate::error::{ReadError, next_member};
 use crate::lists::Reads;
 use crate::passing::pass;
-use crate::scalars::open_object;
+use crate::scalars::{is_same, open_object};
 use json::{Reader, Token};
 use std::alloc::Global;
 
@@ -129,7 +129,7 @@ impl<K: Reads<A>, A: Drop, R: Fields<K> + Drop> Fields<K> for And<A, R> {
         depth: usize,
     ) -> Result<bool, ReadError> {
         let (key, first) = member;
-        if key == names[0] {
+        if is_same(key, names[0]) {
             self.first = K::read(alloc, first, reader, depth)?;
             return Ok(true);
         }

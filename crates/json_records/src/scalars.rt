@@ -1,4 +1,6 @@
 //! Texts, truth values and numbers, and what opens an array or an object. Where the value is another, it is passed over.
+ghost use Rattle.std.specs.Prelude.{◌≡◌};
+ghost use Rattle.std.specs.Str.{bytes_eq};
 ghost use Rattle.json.specs.Token.{begin_array, begin_object};
 ghost use Rattle.serde_json.specs.Data.{string, boolean, number as numeral, unsigned};
 ghost use Rattle.json_records.specs.Reading.{is_text, is_truth, is_natural, is_short, is_object, is_array};
@@ -8,6 +10,14 @@ use crate::error::ReadError;
 use crate::numbers::number;
 use crate::passing::pass;
 use json::{Reader, Token};
+
+/// Whether both are the same text. Most texts that are compared differ in their lengths, which takes no call to see.
+#[inline(always)]
+pub(crate) fn is_same(one: &str, other: &str) -> bool
+    ensures { result ≡ bytes_eq one.now other.now }
+{
+    one.len() == other.len() && one == other
+}
 
 /// The text.
 pub fn text<'a>(

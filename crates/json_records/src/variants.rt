@@ -8,7 +8,7 @@ ghost use Rattle.json_records.specs.Readers.{ReadsForm, ReadsUnder, NotJsonOnlyI
 
 use crate::error::{ReadError, next_member};
 use crate::passing::pass;
-use crate::scalars::open_object;
+use crate::scalars::{is_same, open_object};
 use json::{Reader, Token};
 use std::alloc::Global;
 
@@ -50,7 +50,7 @@ pub fn is_other(before: Option<&str>, key: &str) -> bool
     ensures { result ≡ option_map_or (λ k. not (bytes_eq k.now key.now)) before.entry false }
 {
     match before {
-        Some(name) => name != key,
+        Some(name) => !is_same(name, key),
         None => false,
     }
 }
