@@ -1,4 +1,3 @@
 pub mod CheckedLemmas
 pub mod ConstructLemmas
 pub mod EntryLemmas
-pub mod PatternLemmas

@@ -25,11 +25,8 @@ impl Lexer for CheckOnly {
     ghost relations = { λ _. of_regex };
 
     fn parse_literal(&self, alloc: Global, text: &str) -> Result<Hir, NoMemory> {
-        let pattern = regex_syntax::escape(alloc, text)?;
-        match hir_of(alloc, pattern.as_str()) {
-            Ok(hir) => Ok(hir),
-            Err(_) => Err(NoMemory),
-        }
+        let bytes = String::from_str(alloc, text)?.into_bytes();
+        Ok(Hir::Literal(bytes))
     }
 
     fn parse_regex(&self, alloc: Global, text: &str) -> Result<Hir, RegexError> {
