@@ -8,3 +8,4 @@ mod NoMacros
 mod SourceLemmas
 pub mod StayLemmas
 mod UnboundLemmas
+mod UnchangedLemmas

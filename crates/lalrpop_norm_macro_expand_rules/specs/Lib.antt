@@ -6,3 +6,4 @@ pub mod Macros
 pub mod Names
 pub mod Rules
 pub mod Sources
+pub mod Unchanged

@@ -15,8 +15,8 @@ use Rattle.lalrpop_norm_nodes.proofs.WaitLemmas.{waits_nothing}
 use Rattle.lalrpop_norm_nodes.proofs.WaitReads.{shown_met_one_by_one, partly_waits}
 use Rattle.lalrpop_norm_macro_expand_rules.proofs.reading.read_symbols.Goals as goal
 
-pub returns-in_err-read_symbol-clause-refuses : goal.returns-in_err-read_symbol-clause-refuses
-returns-in_err-read_symbol-clause-refuses c =
+pub returns-in_err-read_in_place-clause-refuses : goal.returns-in_err-read_in_place-clause-refuses
+returns-in_err-read_in_place-clause-refuses c =
     let a = c.args.table.now in
     let b = c.loop-i.table in
     let e = c.args.environment.now in
@@ -31,7 +31,7 @@ returns-in_err-read_symbol-clause-refuses c =
     rw (met_one_by_one (whole_for (wholes_in a) e) vs)
     (partly_exit m vs c.loop-i.i (symbol_view x) here same a b _ _ c.loop-i.invariant.meets c.loop-i.invariant.refuses
     c.from_residual.ensures.1
-    (first_same _ _ _ (ap (λ (f : List ℕ → Option Kind). refused_in b (met (filled f (symbol_view x)))) stay) c.in_err-read_symbol.ensures.refuses))
+    (first_same _ _ _ (ap (λ (f : List ℕ → Option Kind). refused_in b (met (filled f (symbol_view x)))) stay) c.in_err-read_in_place.ensures.refuses))
 
 pub loop-i-init : goal.loop-i-init
 loop-i-init c = record {
@@ -47,10 +47,10 @@ pub loop-i-preserved : goal.loop-i-preserved
 loop-i-preserved c =
     let a = c.args.table.now in
     let b = c.loop-i.table in
-    let d = c.read_symbol.new.table in
+    let d = c.read_in_place.new.table in
     let e = c.args.environment.now in
     let v = c.loop-i.invariant in
-    let n = c.in_ok-read_symbol.ensures in
+    let n = c.in_ok-read_in_place.ensures in
     let m = λ (p : Part). met (read_whole (wholes_in a) e p) in
     let vs = map symbol_view c.args.symbols.now in
     let here : c.loop-i.i < length vs = omega (arith, length-map c.args.symbols.now symbol_view) in
@@ -62,7 +62,7 @@ loop-i-preserved c =
     let reads = subst (λ (f : List ℕ → Option Kind). TableMeets b d (met (filled f (symbol_view x)))) stay n.meets in
     let meets = partly_met m vs c.loop-i.i (symbol_view x) here same a b d v.meets reads in
     record {
-      value = partly_more symbol_view (read_shown e) c.loop-i.symbols vs c.loop-i.i x c.read_symbol.new.symbol here inside v.value at n.value;
+      value = partly_more symbol_view (read_shown e) c.loop-i.symbols vs c.loop-i.i x c.read_in_place.new.symbol here inside v.value at n.value;
       refuses = partly_quiet m vs c.loop-i.i (symbol_view x) here same a b v.meets v.refuses
           (ap (λ (f : List ℕ → Option Kind). refused_in b (met (filled f (symbol_view x)))) (sym stay) ∙ n.refuses);
       meets = meets;
@@ -71,8 +71,8 @@ loop-i-preserved c =
       given = all_given_stay (wholes_in a) (wholes_in d) e meets.grows c.requires.given;
     }
 
-pub read_symbol-requires : goal.read_symbol-requires
-read_symbol-requires c =
+pub read_in_place-requires : goal.read_in_place-requires
+read_in_place-requires c =
     let v = c.loop-i.invariant in
     record { table = v.meets.table; counted = v.counted; given = v.given }
 
