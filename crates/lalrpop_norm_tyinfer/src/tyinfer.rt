@@ -6,6 +6,7 @@ ghost use Rattle.lalrpop_norm_faults.specs.Faults.{Refuses};
 ghost use Rattle.lalrpop_norm_names.specs.Numbers.{IsNumbering};
 ghost use Rattle.lalrpop_norm_theory.specs.Rounds.{IsDistinct};
 ghost use Rattle.lalrpop_norm_repr.specs.Tables.{type_table};
+ghost use Rattle.lalrpop_norm_shared_types.specs.Table.{shared_table};
 ghost use Rattle.lalrpop_norm_model.specs.Expanded.{rule_names};
 ghost use Rattle.lalrpop_norm_model.specs.InferenceFaults.{inference_faults};
 ghost use Rattle.lalrpop_norm_model.specs.PlainRules.{all_rules};
@@ -24,6 +25,7 @@ use agreement::check_agreement;
 use lalrpop_norm_faults::NormResult;
 use lalrpop_norm_names::Names;
 use lalrpop_norm_repr::grammar::repr::Types;
+use lalrpop_norm_shared_types::table::SharedTypes;
 use lalrpop_norm_tree::grammar::parse_tree::{Grammar, NoMemory};
 use lalrpop_norm_tyinfer_steps::grounded::{check_clauses, check_typed};
 use lalrpop_norm_tyinfer_steps::numbered::Numbered;
@@ -64,6 +66,19 @@ pub fn infer_types_numbered(alloc: Global, grammar: &Grammar) -> NormResult<(Typ
     infer(alloc, grammar, &rules)
 }
 
+/// As `infer_types`, with types of nonterminals that share their parts: the type of a rule that another one has too, or has as
+/// a part, is there once.
+///
+/// Errors: those of `infer_types`.
+pub fn infer_shared_types(alloc: Global, grammar: &Grammar) -> NormResult<SharedTypes>
+    requires { IsDistinct (rule_names (grammar_view grammar.now)) }
+    ensures refuses { Refuses result (inference_faults (grammar_view grammar.now)) }
+    ensures inferred { IfOk result (λ t. IsInferred (grammar_view grammar.now) (shared_table t)) }
+{
+    let rules = plain_rules(alloc, &grammar.items)?;
+    infer_shared(alloc, grammar, &rules)
+}
+
 /// The table and the numbers of the names, from the rules with their clauses.
 // The two are apart for drops: what a function owns ends at each `?` behind it, and each end is proved.
 fn infer(alloc: Global, grammar: &Grammar, rules: &[PlainRule]) -> NormResult<(Types, Names)>
@@ -73,11 +88,35 @@ fn infer(alloc: Global, grammar: &Grammar, rules: &[PlainRule]) -> NormResult<(T
     ensures inferred { IfOk result (λ p. IsInferred (grammar_view grammar.now) (type_table p.0)) }
     ensures names { IfOk result (λ p. IsNumbering (rule_names (grammar_view grammar.now)) p.1) }
 {
+    let types = checked_table(alloc, grammar, rules)?;
+    let listed = types.by_name(alloc)?;
+    Ok(listed)
+}
+
+/// The table, from the rules with their clauses.
+fn infer_shared(alloc: Global, grammar: &Grammar, rules: &[PlainRule]) -> NormResult<SharedTypes>
+    requires seen { map rule_seen rules.now ≡ map with_clauses (all_rules (grammar_view grammar.now)) }
+    requires distinct { IsDistinct (rule_names (grammar_view grammar.now)) }
+    ensures refuses { Refuses result (inference_faults (grammar_view grammar.now)) }
+    ensures inferred { IfOk result (λ t. IsInferred (grammar_view grammar.now) (shared_table t)) }
+{
+    let types = checked_table(alloc, grammar, rules)?;
+    let table = types.shared_by_name(alloc)?;
+    Ok(table)
+}
+
+/// The table where the rounds end, of rules that have none of the faults.
+fn checked_table(alloc: Global, grammar: &Grammar, rules: &[PlainRule]) -> NormResult<Numbered>
+    requires seen { map rule_seen rules.now ≡ map with_clauses (all_rules (grammar_view grammar.now)) }
+    requires distinct { IsDistinct (rule_names (grammar_view grammar.now)) }
+    ensures refuses { Refuses result (inference_faults (grammar_view grammar.now)) }
+    ensures filled { IfOk result (λ t. HasAllRows (grammar_view grammar.now) (numbered_table t)) }
+    ensures numbered { IfOk result (λ t. NumbersRules t (map rule_seen rules.now)) }
+{
     check_clauses(alloc, rules)?;
     let types = filled_table(alloc, grammar, rules)?;
     check_table(alloc, &types, rules)?;
-    let listed = types.by_name()?;
-    Ok(listed)
+    Ok(types)
 }
 
 /// The table where the rounds end.

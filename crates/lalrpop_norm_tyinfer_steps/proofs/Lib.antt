@@ -12,9 +12,11 @@ pub mod NumberedRounds
 mod ReadLemmas
 pub mod RoundLemmas
 mod SameLemmas
+mod SharedLevels
 pub mod StopLemmas
 pub mod TokenLemmas
 mod TupleSizes
+mod TypeWeights
 pub mod ValueLemmas
 pub mod VisitLemmas
 mod WaitingLemmas

@@ -4,11 +4,12 @@ use Rattle.std.specs.List.{flat_map}
 use Rattle.std.specs.Prelude.{if◌then◌else◌}
 use Rattle.std.proofs.lemmas.List.{map-append, at_drop_more}
 use Rattle.lalrpop_norm_tree_names.specs.declared.names.Span.{Span}
-use Rattle.lalrpop_norm_tree_parts.specs.declared.lowered.TypeRepr.{TypeRepr}
+use Rattle.lalrpop_norm_shared_types.specs.Shared.{shared_view, shared_all}
+use Rattle.lalrpop_norm_shared_types.specs.declared.shared.SharedType.{SharedType}
 use Rattle.lalrpop_norm_tree.specs.declared.symbol.ArgPattern.{ArgPattern}
 use Rattle.lalrpop_norm_tree.specs.declared.symbol.ArgPattern.TheFolds.{fold_out-Tuple}
 use Rattle.lalrpop_norm_tree.specs.declared.symbol.Tuple.{Tuple}
-use Rattle.lalrpop_norm_tree_parts.specs.Reprs.{ReprData, Reprs, tuple, slice, nominal, associated, of_lifetime, reference, trait_object, function, reprs_view, repr_view}
+use Rattle.lalrpop_norm_tree_parts.specs.Reprs.{ReprData, Reprs, tuple, slice, nominal, associated, of_lifetime, reference, trait_object, function}
 use Rattle.lalrpop_norm_tree.specs.Symbols.{ArgumentPattern, ArgumentPatterns, several, argument_pattern_step, tuple_step, tuple_view, Kind, Parts, tupled, at, no_parts, part_and, argument_pattern_view, argument_patterns_view}
 use Rattle.lalrpop_norm_faults.specs.declared.failure.NormFailure.{NormFailure}
 use Rattle.lalrpop_norm_faults.specs.declared.kind.FaultKind.TheVariants.{TupleLength, TupleOverType}
@@ -33,13 +34,13 @@ tuple_is t = fold_out-Tuple ArgumentPattern ArgumentPatterns argument_pattern_st
 
 -- ---- lengths
 
-pub as_many_is : (ps : List ArgPattern) (ts : List TypeRepr) → length ps ≡ length ts → as_many (argument_patterns_view ps) (reprs_view ts) ≡ true
+pub as_many_is : (ps : List ArgPattern) (ts : List SharedType) → length ps ≡ length ts → as_many (argument_patterns_view ps) (shared_all ts) ≡ true
 as_many_is [] [] e = refl
 as_many_is [] (t ∷ ts) e = absurd (omega arith)
 as_many_is (p ∷ ps) [] e = absurd (omega arith)
 as_many_is (p ∷ ps) (t ∷ ts) e = as_many_is ps ts (omega arith)
 
-pub not_as_many : (ps : List ArgPattern) (ts : List TypeRepr) → (length ps ≡ length ts → ⊥) → as_many (argument_patterns_view ps) (reprs_view ts) ≡ false
+pub not_as_many : (ps : List ArgPattern) (ts : List SharedType) → (length ps ≡ length ts → ⊥) → as_many (argument_patterns_view ps) (shared_all ts) ≡ false
 not_as_many [] [] e = absurd (e refl)
 not_as_many [] (t ∷ ts) e = refl
 not_as_many (p ∷ ps) [] e = refl
@@ -47,19 +48,19 @@ not_as_many (p ∷ ps) (t ∷ ts) e = not_as_many ps ts (λ same. e (ap suc same
 
 -- ---- a loop over patterns and types
 
-at_both : (s : Span) (ps : List ArgPattern) (ts : List TypeRepr) (i : ℕ) (p : ArgPattern) (t : TypeRepr) → i < length ps → i < length ts → p ≡ get_or ps i p → t ≡ get_or ts i t →
-    faults_at s (misfits_of (argument_patterns_view (drop i ps)) (reprs_view (drop i ts)))
-    ≡ faults_at s (misfits (argument_pattern_view p) (repr_view t)) ++ faults_at s (misfits_of (argument_patterns_view (drop (i + 1) ps)) (reprs_view (drop (i + 1) ts)))
+at_both : (s : Span) (ps : List ArgPattern) (ts : List SharedType) (i : ℕ) (p : ArgPattern) (t : SharedType) → i < length ps → i < length ts → p ≡ get_or ps i p → t ≡ get_or ts i t →
+    faults_at s (misfits_of (argument_patterns_view (drop i ps)) (shared_all (drop i ts)))
+    ≡ faults_at s (misfits (argument_pattern_view p) (shared_view t)) ++ faults_at s (misfits_of (argument_patterns_view (drop (i + 1) ps)) (shared_all (drop (i + 1) ts)))
 at_both s ps ts i p t lp lt ip it =
-    at_drop_more (λ qs. faults_at s (misfits_of (argument_patterns_view qs) (reprs_view (drop i ts)))) ps i p lp
-    ∙ (at_drop_more (λ us. faults_at s (misfits_of (argument_patterns_view (get_or ps i p ∷ drop (i + 1) ps)) (reprs_view us))) ts i t lt
-    ∙ (ap (λ q. faults_at s (misfits_of (argument_patterns_view (q ∷ drop (i + 1) ps)) (reprs_view (get_or ts i t ∷ drop (i + 1) ts)))) (sym ip)
-    ∙ (ap (λ u. faults_at s (misfits_of (argument_patterns_view (p ∷ drop (i + 1) ps)) (reprs_view (u ∷ drop (i + 1) ts)))) (sym it)
-    ∙ map-append _ (misfits (argument_pattern_view p) (repr_view t)) (misfits_of (argument_patterns_view (drop (i + 1) ps)) (reprs_view (drop (i + 1) ts))))))
+    at_drop_more (λ qs. faults_at s (misfits_of (argument_patterns_view qs) (shared_all (drop i ts)))) ps i p lp
+    ∙ (at_drop_more (λ us. faults_at s (misfits_of (argument_patterns_view (get_or ps i p ∷ drop (i + 1) ps)) (shared_all us))) ts i t lt
+    ∙ (ap (λ q. faults_at s (misfits_of (argument_patterns_view (q ∷ drop (i + 1) ps)) (shared_all (get_or ts i t ∷ drop (i + 1) ts)))) (sym ip)
+    ∙ (ap (λ u. faults_at s (misfits_of (argument_patterns_view (p ∷ drop (i + 1) ps)) (shared_all (u ∷ drop (i + 1) ts)))) (sym it)
+    ∙ map-append _ (misfits (argument_pattern_view p) (shared_view t)) (misfits_of (argument_patterns_view (drop (i + 1) ps)) (shared_all (drop (i + 1) ts))))))
 
-pub next_misfits : (s : Span) (ps : List ArgPattern) (ts : List TypeRepr) (i : ℕ) (p : ArgPattern) (t : TypeRepr) → i < length ps → i < length ts → p ≡ get_or ps i p → t ≡ get_or ts i t →
-    (all : List Fault) → faults_at s (misfits_of (argument_patterns_view (drop i ps)) (reprs_view (drop i ts))) ≡ all →
-    all ≡ faults_at s (misfits (argument_pattern_view p) (repr_view t)) ++ faults_at s (misfits_of (argument_patterns_view (drop (i + 1) ps)) (reprs_view (drop (i + 1) ts)))
+pub next_misfits : (s : Span) (ps : List ArgPattern) (ts : List SharedType) (i : ℕ) (p : ArgPattern) (t : SharedType) → i < length ps → i < length ts → p ≡ get_or ps i p → t ≡ get_or ts i t →
+    (all : List Fault) → faults_at s (misfits_of (argument_patterns_view (drop i ps)) (shared_all (drop i ts))) ≡ all →
+    all ≡ faults_at s (misfits (argument_pattern_view p) (shared_view t)) ++ faults_at s (misfits_of (argument_patterns_view (drop (i + 1) ps)) (shared_all (drop (i + 1) ts)))
 next_misfits s ps ts i p t lp lt ip it all e = sym e ∙ at_both s ps ts i p t lp lt ip it
 
 -- ---- a pattern over a type

@@ -12,15 +12,17 @@ use Rattle.lalrpop_norm_names.specs.Numbers.{first_place, number_by, number_in_t
 use Rattle.lalrpop_norm_theory.specs.Rounds.{In, IsDistinct}
 use Rattle.lalrpop_norm_tree_names.specs.declared.names.NonterminalString.{NonterminalString}
 use Rattle.lalrpop_norm_tree.specs.Accessors.{or_else}
-use Rattle.lalrpop_norm_tree_parts.specs.declared.lowered.TypeRepr.{TypeRepr}
-use Rattle.lalrpop_norm_tree_parts.specs.Reprs.{ReprData, repr_view}
+use Rattle.lalrpop_norm_tree_parts.specs.Reprs.{ReprData}
 use Rattle.lalrpop_norm_repr.specs.Tables.{TypeTable, found}
 use Rattle.lalrpop_norm_model.proofs.LevelLemmas.{at_in}
 use Rattle.lalrpop_norm_model.proofs.ListLemmas.{texts_differ}
+use Rattle.lalrpop_norm_shared_types.specs.declared.shared.SharedType.{SharedType}
+use Rattle.lalrpop_norm_shared_types.specs.Shared.{shared_view}
+use Rattle.lalrpop_norm_shared_types.specs.Table.{shared_rows}
 use Rattle.lalrpop_norm_tyinfer_steps.proofs.NeedLemmas.{of_mapped_at}
 use Rattle.lalrpop_norm_tyinfer_steps.specs.declared.numbered.Numbered.{Numbered}
 use Rattle.lalrpop_norm_tyinfer_steps.specs.Needs.{AreRuleNumbers}
-use Rattle.lalrpop_norm_tyinfer_steps.specs.Numbered.{names_numbered, type_of_rule, type_at, type_by_number, row_if, typed_rows, numbered_table, IsNumberOf, PutsType, PutsRow}
+use Rattle.lalrpop_norm_tyinfer_steps.specs.Numbered.{names_numbered, type_of_rule, type_at, type_by_number, row_if, typed_rows, row_with, rows_of_rules, numbered_table, IsNumberOf, PutsType, PutsRow}
 use Rattle.lalrpop_norm_tyinfer_steps.specs.TableValues.{nonterminal_named, type_by_name}
 
 -- ---- a row for each name
@@ -119,11 +121,11 @@ get_beside (z ∷ xs) zero (suc q) y apart = refl
 get_beside (z ∷ xs) (suc k) zero y apart = refl
 get_beside (z ∷ xs) (suc k) (suc q) y apart = get_beside xs k q y (λ e. apart (ap suc e))
 
-pub puts_type : (t after : Numbered) (number : ℕ) (old : NonterminalString × Option TypeRepr) (ty : TypeRepr) → slice_get t.rules.items number ≡ Some old → number < length t.rules.items →
-    after.names ≡ t.names → after.tokens ≡ t.tokens → after.rules.items ≡ set t.rules.items number (old.0, Some ty) → PutsType t after number (repr_view ty)
+pub puts_type : (t after : Numbered) (number : ℕ) (old : NonterminalString × Option SharedType) (ty : SharedType) → slice_get t.rules.items number ≡ Some old → number < length t.rules.items →
+    after.names ≡ t.names → after.tokens ≡ t.tokens → after.rules.items ≡ set t.rules.items number (old.0, Some ty) → PutsType t after number (shared_view ty)
 puts_type t after number old ty there lt names tokens rules = record {
   names = names;
-  listed = ap (map (λ (r : NonterminalString × Option TypeRepr). r.0.0)) rules ∙ map_set (λ (r : NonterminalString × Option TypeRepr). r.0.0) t.rules.items number old (old.0, Some ty) there refl;
+  listed = ap (map (λ (r : NonterminalString × Option SharedType). r.0.0)) rules ∙ map_set (λ (r : NonterminalString × Option SharedType). r.0.0) t.rules.items number old (old.0, Some ty) there refl;
   tokens = tokens;
   here = ap (λ rs. type_of_rule (slice_get rs number)) rules ∙ ap type_of_rule (get_set t.rules.items number (old.0, Some ty) lt);
   others = λ q apart. ap (λ rs. type_of_rule (slice_get rs q)) rules ∙ ap type_of_rule (get_beside t.rules.items number q (old.0, Some ty) apart);
@@ -131,7 +133,7 @@ puts_type t after number old ty there lt names tokens rules = record {
 
 -- ---- no rule has a type
 
-later_none : (rs : List (NonterminalString × Option TypeRepr)) (r : NonterminalString × Option TypeRepr) → ((o : Option ℕ) → type_at (r ∷ rs) o ≡ None) → (o : Option ℕ) → type_at rs o ≡ None
+later_none : (rs : List (NonterminalString × Option SharedType)) (r : NonterminalString × Option SharedType) → ((o : Option ℕ) → type_at (r ∷ rs) o ≡ None) → (o : Option ℕ) → type_at rs o ≡ None
 later_none rs r none None = refl
 later_none rs r none (Some k) = none (Some (suc k))
 
@@ -139,7 +141,7 @@ pub none_at_first : (o : Option ℕ) → type_at [] o ≡ None
 none_at_first None = refl
 none_at_first (Some k) = refl
 
-pub none_more : (rs : List (NonterminalString × Option TypeRepr)) (n : NonterminalString) → ((o : Option ℕ) → type_at rs o ≡ None) → (o : Option ℕ) → type_at (rs ++ (n, None) ∷ []) o ≡ None
+pub none_more : (rs : List (NonterminalString × Option SharedType)) (n : NonterminalString) → ((o : Option ℕ) → type_at rs o ≡ None) → (o : Option ℕ) → type_at (rs ++ (n, None) ∷ []) o ≡ None
 none_more rs n none None = refl
 none_more [] n none (Some zero) = refl
 none_more [] n none (Some (suc k)) = refl
@@ -147,68 +149,68 @@ none_more (r ∷ rs) n none (Some zero) = none (Some zero)
 none_more (r ∷ rs) n none (Some (suc k)) = none_more rs n (later_none rs r none) (Some k)
 
 -- the next name becomes that of a rule
-pub name_moved : (rs : List (NonterminalString × Option TypeRepr)) (n : NonterminalString) (ns : List NonterminalString) →
-    map (λ (r : NonterminalString × Option TypeRepr). r.0.0) (rs ++ (n, None) ∷ []) ++ map (λ (m : NonterminalString). m.0) ns
-    ≡ map (λ (r : NonterminalString × Option TypeRepr). r.0.0) rs ++ map (λ (m : NonterminalString). m.0) (n ∷ ns)
+pub name_moved : (rs : List (NonterminalString × Option SharedType)) (n : NonterminalString) (ns : List NonterminalString) →
+    map (λ (r : NonterminalString × Option SharedType). r.0.0) (rs ++ (n, None) ∷ []) ++ map (λ (m : NonterminalString). m.0) ns
+    ≡ map (λ (r : NonterminalString × Option SharedType). r.0.0) rs ++ map (λ (m : NonterminalString). m.0) (n ∷ ns)
 name_moved rs n ns =
     let texts = map (λ (m : NonterminalString). m.0) ns in
-    let name = λ (r : NonterminalString × Option TypeRepr). r.0.0 in
+    let name = λ (r : NonterminalString × Option SharedType). r.0.0 in
     ap (λ xs. xs ++ texts) (map-append name rs ((n, None) ∷ [])) ∙ append_assoc (map name rs) (n.0 ∷ []) texts
 
 -- ---- types by name
 
 -- the type of the first rule of a name that has one
-abbrev pub first_typed : List ℕ → List (NonterminalString × Option TypeRepr) → Option ReprData
+abbrev pub first_typed : List ℕ → List (NonterminalString × Option SharedType) → Option ReprData
 first_typed n [] = None
-first_typed n (r ∷ rs) = or_else (if bytes_eq n r.0.0 then option_map repr_view r.1 else None) (first_typed n rs)
+first_typed n (r ∷ rs) = or_else (if bytes_eq n r.0.0 then option_map shared_view r.1 else None) (first_typed n rs)
 
-abbrev pub names_in_rules : List (NonterminalString × Option TypeRepr) → List (List ℕ)
+abbrev pub names_in_rules : List (NonterminalString × Option SharedType) → List (List ℕ)
 names_in_rules rs = map (λ r. r.0.0) rs
 
 or_none : (o : Option ReprData) → or_else o None ≡ o
 or_none None = refl
 or_none (Some x) = refl
 
-absent_case : (n : List ℕ) (r : NonterminalString × Option TypeRepr) (rs : List (NonterminalString × Option TypeRepr)) → (In n (names_in_rules (r ∷ rs)) → ⊥) → first_typed n rs ≡ None → (b : Bool) → bytes_eq n r.0.0 ≡ b →
+absent_case : (n : List ℕ) (r : NonterminalString × Option SharedType) (rs : List (NonterminalString × Option SharedType)) → (In n (names_in_rules (r ∷ rs)) → ⊥) → first_typed n rs ≡ None → (b : Bool) → bytes_eq n r.0.0 ≡ b →
     first_typed n (r ∷ rs) ≡ None
 absent_case n r rs out rest true e = absurd (out (inl ((bytes_eq-Decides n r.0.0).0 e)))
 absent_case n r rs out rest false e = rw e rest
 
-absent : (n : List ℕ) (rs : List (NonterminalString × Option TypeRepr)) → (In n (names_in_rules rs) → ⊥) → first_typed n rs ≡ None
+absent : (n : List ℕ) (rs : List (NonterminalString × Option SharedType)) → (In n (names_in_rules rs) → ⊥) → first_typed n rs ≡ None
 absent n [] out = refl
 absent n (r ∷ rs) out = absent_case n r rs out (absent n rs (λ h. out (inr h))) (bytes_eq n r.0.0) refl
 
-typed_here : (n : List ℕ) (r : NonterminalString × Option TypeRepr) (rs : List (NonterminalString × Option TypeRepr)) → (In r.0.0 (names_in_rules rs) → ⊥) → n ≡ r.0.0 → first_typed n (r ∷ rs) ≡ option_map repr_view r.1
+typed_here : (n : List ℕ) (r : NonterminalString × Option SharedType) (rs : List (NonterminalString × Option SharedType)) → (In r.0.0 (names_in_rules rs) → ⊥) → n ≡ r.0.0 → first_typed n (r ∷ rs) ≡ option_map shared_view r.1
 typed_here n r rs out e =
     let is : bytes_eq n r.0.0 ≡ true = (bytes_eq-Decides n r.0.0).1 e in
-    rw is (ap (or_else (option_map repr_view r.1)) (absent n rs (λ h. out (subst (λ m. In m (names_in_rules rs)) e h))) ∙ or_none (option_map repr_view r.1))
+    rw is (ap (or_else (option_map shared_view r.1)) (absent n rs (λ h. out (subst (λ m. In m (names_in_rules rs)) e h))) ∙ or_none (option_map shared_view r.1))
 
-typed_behind : (n : List ℕ) (r : NonterminalString × Option TypeRepr) (rs : List (NonterminalString × Option TypeRepr)) → (n ≡ r.0.0 → ⊥) → (b : Bool) → bytes_eq n r.0.0 ≡ b → first_typed n (r ∷ rs) ≡ first_typed n rs
+typed_behind : (n : List ℕ) (r : NonterminalString × Option SharedType) (rs : List (NonterminalString × Option SharedType)) → (n ≡ r.0.0 → ⊥) → (b : Bool) → bytes_eq n r.0.0 ≡ b → first_typed n (r ∷ rs) ≡ first_typed n rs
 typed_behind n r rs apart true e = absurd (apart ((bytes_eq-Decides n r.0.0).0 e))
 typed_behind n r rs apart false e = rw e refl
 
-typed_at_place : (n : List ℕ) (rs : List (NonterminalString × Option TypeRepr)) (k : ℕ) (r : NonterminalString × Option TypeRepr) → IsDistinct (names_in_rules rs) → slice_get rs k ≡ Some r → n ≡ r.0.0 →
-    first_typed n rs ≡ option_map repr_view r.1
+typed_at_place : (n : List ℕ) (rs : List (NonterminalString × Option SharedType)) (k : ℕ) (r : NonterminalString × Option SharedType) → IsDistinct (names_in_rules rs) → slice_get rs k ≡ Some r → n ≡ r.0.0 →
+    first_typed n rs ≡ option_map shared_view r.1
 typed_at_place n [] k r d here e = absurd (cc here)
 typed_at_place n (q ∷ rs) zero r d here e =
     let same : q ≡ r = cc in
-    typed_here n q rs d.0 (e ∙ ap (λ (s : NonterminalString × Option TypeRepr). s.0.0) (sym same)) ∙ ap (λ (s : NonterminalString × Option TypeRepr). option_map repr_view s.1) same
+    typed_here n q rs d.0 (e ∙ ap (λ (s : NonterminalString × Option SharedType). s.0.0) (sym same)) ∙ ap (λ (s : NonterminalString × Option SharedType). option_map shared_view s.1) same
 typed_at_place n (q ∷ rs) (suc k) r d here e =
-    let behind : In r.0.0 (names_in_rules rs) = at_in (names_in_rules rs) k r.0.0 (slice_get-map (λ (s : NonterminalString × Option TypeRepr). s.0.0) rs k ∙ ap (option_map (λ (s : NonterminalString × Option TypeRepr). s.0.0)) here) in
+    let behind : In r.0.0 (names_in_rules rs) = at_in (names_in_rules rs) k r.0.0 (slice_get-map (λ (s : NonterminalString × Option SharedType). s.0.0) rs k ∙ ap (option_map (λ (s : NonterminalString × Option SharedType). s.0.0)) here) in
     typed_behind n q rs (λ same. d.0 (subst (λ m. In m (names_in_rules rs)) (sym e ∙ same) behind)) (bytes_eq n q.0.0) refl ∙ typed_at_place n rs k r d.1 here e
 
 module _ (t : Numbered) (numbers : AreRuleNumbers (number_in_table t.names) (names_numbered t)) (distinct : IsDistinct (names_numbered t)) (n : List ℕ) where
   first_case : (o : Option ℕ) → number_in_table t.names n ≡ o → first_typed n t.rules.items ≡ type_by_number t n
   first_case None e = absent n t.rules.items (numbers.all n e) ∙ sym (ap (type_at t.rules.items) e)
   first_case (Some k) e =
-      let r = of_mapped_at (λ (s : NonterminalString × Option TypeRepr). s.0.0) t.rules.items k n (numbers.right n k e) in
+      let r = of_mapped_at (λ (s : NonterminalString × Option SharedType). s.0.0) t.rules.items k n (numbers.right n k e) in
       typed_at_place n t.rules.items k r.0 distinct r.1 (sym r.2) ∙ sym (ap (type_at t.rules.items) e ∙ ap type_of_rule r.1)
 
   pub first_is : first_typed n t.rules.items ≡ type_by_name (numbered_table t) n
   first_is = first_case (number_in_table t.names n) refl ∙ sym (name_by_number t n)
 
 -- the rules up to here are in the table
-pub record PutsRules (before tt : TypeTable) (rest rules : List (NonterminalString × Option TypeRepr)) : Type 0 where
+pub record PutsRules (before tt : TypeTable) (rest rules : List (NonterminalString × Option SharedType)) : Type 0 where
   pub types : (n : List ℕ) → or_else (type_by_name tt n) (first_typed n rest) ≡ first_typed n rules
   pub fresh : (n : List ℕ) → In n (names_in_rules rest) → type_by_name tt n ≡ None
   pub distinct : IsDistinct (names_in_rules rest)
@@ -217,19 +219,19 @@ pub record PutsRules (before tt : TypeTable) (rest rules : List (NonterminalStri
 or_twice : (n m : List ℕ) (v : Option ReprData) (w : Option ReprData) → n ≡ m → or_else (if bytes_eq n m then v else None) w ≡ or_else v w
 or_twice n m v w e = let is : bytes_eq n m ≡ true = (bytes_eq-Decides n m).1 e in rw is refl
 
-puts_case : (before tt after : TypeTable) (r : NonterminalString × Option TypeRepr) (rest rules : List (NonterminalString × Option TypeRepr)) → PutsRules before tt (r ∷ rest) rules →
-    PutsRow tt after r.0.0 (option_map repr_view r.1) → (n : List ℕ) → (b : Bool) → bytes_eq n r.0.0 ≡ b → or_else (type_by_name after n) (first_typed n rest) ≡ first_typed n rules
+puts_case : (before tt after : TypeTable) (r : NonterminalString × Option SharedType) (rest rules : List (NonterminalString × Option SharedType)) → PutsRules before tt (r ∷ rest) rules →
+    PutsRow tt after r.0.0 (option_map shared_view r.1) → (n : List ℕ) → (b : Bool) → bytes_eq n r.0.0 ≡ b → or_else (type_by_name after n) (first_typed n rest) ≡ first_typed n rules
 puts_case before tt after r rest rules p row n true e =
     let same : n ≡ r.0.0 = (bytes_eq-Decides n r.0.0).0 e in
     let none : type_by_name tt n ≡ None = ap (type_by_name tt) same ∙ p.fresh r.0.0 (inl refl) in
     ap (λ o. or_else o (first_typed n rest)) (ap (type_by_name after) same ∙ row.here)
-    ∙ (sym (or_twice n r.0.0 (option_map repr_view r.1) (first_typed n rest) same) ∙ (sym (ap (λ o. or_else o (first_typed n (r ∷ rest))) none) ∙ p.types n))
+    ∙ (sym (or_twice n r.0.0 (option_map shared_view r.1) (first_typed n rest) same) ∙ (sym (ap (λ o. or_else o (first_typed n (r ∷ rest))) none) ∙ p.types n))
 puts_case before tt after r rest rules p row n false e =
     ap (λ o. or_else o (first_typed n rest)) (row.others n (texts_differ n r.0.0 e))
     ∙ (sym (ap (or_else (type_by_name tt n)) (typed_behind n r rest (texts_differ n r.0.0 e) false e)) ∙ p.types n)
 
-pub puts_more : (before tt after : TypeTable) (r : NonterminalString × Option TypeRepr) (rest rules : List (NonterminalString × Option TypeRepr)) → PutsRules before tt (r ∷ rest) rules →
-    PutsRow tt after r.0.0 (option_map repr_view r.1) → PutsRules before after rest rules
+pub puts_more : (before tt after : TypeTable) (r : NonterminalString × Option SharedType) (rest rules : List (NonterminalString × Option SharedType)) → PutsRules before tt (r ∷ rest) rules →
+    PutsRow tt after r.0.0 (option_map shared_view r.1) → PutsRules before after rest rules
 puts_more before tt after r rest rules p row = record {
   types = λ n. puts_case before tt after r rest rules p row n (bytes_eq n r.0.0) refl;
   fresh = λ n h. row.others n (λ same. p.distinct.0 (subst (λ m. In m (names_in_rules rest)) same h)) ∙ p.fresh n (inr h);
@@ -237,7 +239,7 @@ puts_more before tt after r rest rules p row = record {
   others = row.rest ∙ ap (λ (u : TypeTable). record u { nonterminals = after.nonterminals }) p.others;
 }
 
-pub puts_none : (tt : TypeTable) (rules : List (NonterminalString × Option TypeRepr)) → tt.nonterminals ≡ [] → IsDistinct (names_in_rules rules) → PutsRules tt tt rules rules
+pub puts_none : (tt : TypeTable) (rules : List (NonterminalString × Option SharedType)) → tt.nonterminals ≡ [] → IsDistinct (names_in_rules rules) → PutsRules tt tt rules rules
 puts_none tt rules empty distinct = record {
   types = λ n. ap (λ o. or_else o (first_typed n rules)) (ap (found (nonterminal_named n)) empty);
   fresh = λ n h. ap (found (nonterminal_named n)) empty;
@@ -245,9 +247,44 @@ puts_none tt rules empty distinct = record {
   others = refl;
 }
 
-pub puts_all : (before tt : TypeTable) (rest rules : List (NonterminalString × Option TypeRepr)) → rest ≡ [] → PutsRules before tt rest rules → (n : List ℕ) → type_by_name tt n ≡ first_typed n rules
+pub puts_all : (before tt : TypeTable) (rest rules : List (NonterminalString × Option SharedType)) → rest ≡ [] → PutsRules before tt rest rules → (n : List ℕ) → type_by_name tt n ≡ first_typed n rules
 puts_all before tt rest rules none p n = sym (or_none (type_by_name tt n)) ∙ (ap (λ rs. or_else (type_by_name tt n) (first_typed n rs)) (sym none) ∙ p.types n)
 
 pub none_left : {X : Type 0} (xs : List X) → length xs ≡ 0 → xs ≡ []
 none_left [] e = refl
 none_left (x ∷ xs) e = absurd (omega arith)
+
+-- ---- the rows of the rules that have types
+
+row_first : (n : List ℕ) (m : NonterminalString) (v : Option SharedType) (rows : List (NonterminalString × SharedType)) (o : Option ReprData) → found (nonterminal_named n) (shared_rows rows) ≡ o → (b : Bool) → bytes_eq n m.0 ≡ b →
+    found (nonterminal_named n) (shared_rows (row_with m v ++ rows)) ≡ or_else (if bytes_eq n m.0 then option_map shared_view v else None) o
+row_first n m None rows o rest true e = rw e rest
+row_first n m None rows o rest false e = rw e rest
+row_first n m (Some t) rows o rest true e = rw e refl
+row_first n m (Some t) rows o rest false e = rw e rest
+
+-- the first row of a name has the type of the first rule of that name that has one
+pub rows_first : (n : List ℕ) (rs : List (NonterminalString × Option SharedType)) → found (nonterminal_named n) (shared_rows (rows_of_rules rs)) ≡ first_typed n rs
+rows_first n [] = refl
+rows_first n (r ∷ rs) = row_first n r.0 r.1 (rows_of_rules rs) (first_typed n rs) (rows_first n rs) (bytes_eq n r.0.0) refl
+
+abbrev pub names_in_rows : List (NonterminalString × SharedType) → List (List ℕ)
+names_in_rows rows = map (λ (r : NonterminalString × SharedType). r.0.0) rows
+
+row_in : (n : List ℕ) (m : NonterminalString) (v : Option SharedType) (rows : List (NonterminalString × SharedType)) (names : List (List ℕ)) → (In n (names_in_rows rows) → In n names) → In n (names_in_rows (row_with m v ++ rows)) → In n (m.0 ∷ names)
+row_in n m None rows names rest h = inr (rest h)
+row_in n m (Some t) rows names rest (inl same) = inl same
+row_in n m (Some t) rows names rest (inr h) = inr (rest h)
+
+rows_in : (n : List ℕ) (rs : List (NonterminalString × Option SharedType)) → In n (names_in_rows (rows_of_rules rs)) → In n (names_in_rules rs)
+rows_in n [] h = absurd h
+rows_in n (r ∷ rs) h = row_in n r.0 r.1 (rows_of_rules rs) (names_in_rules rs) (rows_in n rs) h
+
+row_distinct : (m : NonterminalString) (v : Option SharedType) (rows : List (NonterminalString × SharedType)) → (In m.0 (names_in_rows rows) → ⊥) → IsDistinct (names_in_rows rows) → IsDistinct (names_in_rows (row_with m v ++ rows))
+row_distinct m None rows out rest = rest
+row_distinct m (Some t) rows out rest = (out, rest)
+
+-- where the names of rules are distinct, so are those of the rows
+pub rows_distinct : (rs : List (NonterminalString × Option SharedType)) → IsDistinct (names_in_rules rs) → IsDistinct (map (λ (r : NonterminalString × SharedType). r.0.0) (rows_of_rules rs))
+rows_distinct [] d = d
+rows_distinct (r ∷ rs) d = row_distinct r.0 r.1 (rows_of_rules rs) (λ h. d.0 (rows_in r.0.0 rs h)) (rows_distinct rs d.1)

@@ -6,10 +6,10 @@ use Rattle.lalrpop_norm_names.specs.declared.table.Names.{Names}
 use Rattle.lalrpop_norm_names.specs.Numbers.{number_in_table, names_looked_up}
 use Rattle.lalrpop_norm_theory.specs.Rounds.{IsDistinct}
 use Rattle.lalrpop_norm_tree_names.specs.declared.names.NonterminalString.{NonterminalString}
-use Rattle.lalrpop_norm_tree_parts.specs.declared.lowered.TypeRepr.{TypeRepr}
 use Rattle.lalrpop_norm_tree_parts.specs.Reprs.{ReprData}
 use Rattle.lalrpop_norm_repr.specs.declared.types.Types.{Types}
 use Rattle.lalrpop_norm_repr.specs.Tables.{type_table, type_of}
+use Rattle.lalrpop_norm_shared_types.specs.declared.shared.SharedType.{SharedType}
 use Rattle.lalrpop_norm_tyinfer_steps.specs.declared.numbered.Numbered.{Numbered}
 use Rattle.lalrpop_norm_tyinfer_steps.specs.Needs.{names_seen, AreRuleNumbers}
 use Rattle.lalrpop_norm_tyinfer_steps.specs.Numbered.{names_numbered, type_at, type_by_number, typed_rows, numbered_table, PutsType, HasSameNumbers, IsNumberOf, NumbersRules}
@@ -62,7 +62,7 @@ module _ (t : Numbered) (ss : List Seen) (k : ℕ) (s : Seen) (is : NumbersRules
   number_case (Some j) e = e ∙ ap Some (one_place (names_seen ss) s.0.name.0 j k distinct (is.numbers.right s.0.name.0 j e) (name_at ss k s here))
 
   count_of : length t.rules.items ≡ length ss
-  count_of = sym (length-map t.rules.items (λ (r : NonterminalString × Option TypeRepr). r.0.0)) ∙ (ap length is.listed ∙ length-map ss (λ (q : Seen). q.0.name.0))
+  count_of = sym (length-map t.rules.items (λ (r : NonterminalString × Option SharedType). r.0.0)) ∙ (ap length is.listed ∙ length-map ss (λ (q : Seen). q.0.name.0))
 
   pub number_of : IsNumberOf t s.0.name.0 k
   number_of = record {

@@ -1,10 +1,11 @@
 -- The types of rules by number, as a type table.
-use Rattle.std.specs.Prelude.{◌≡◌, ◌<◌, ◌++◌, ◌∷◌, ℕ, List, [], length, map, Option, Some, None, option_map, slice_get}
+use Rattle.std.specs.Prelude.{◌≡◌, ◌<◌, ◌++◌, ◌∷◌, ℕ, List, [], length, map, flat_map, Option, Some, None, option_map, slice_get}
 use Rattle.lalrpop_norm_names.specs.Numbers.{number_in_table, names_looked_up}
 use Rattle.lalrpop_norm_tree_names.specs.declared.names.NonterminalString.{NonterminalString}
-use Rattle.lalrpop_norm_tree_parts.specs.declared.lowered.TypeRepr.{TypeRepr}
-use Rattle.lalrpop_norm_tree_parts.specs.Reprs.{ReprData, repr_view}
+use Rattle.lalrpop_norm_tree_parts.specs.Reprs.{ReprData}
 use Rattle.lalrpop_norm_repr.specs.Tables.{TypeTable, type_table}
+use Rattle.lalrpop_norm_shared_types.specs.declared.shared.SharedType.{SharedType}
+use Rattle.lalrpop_norm_shared_types.specs.Shared.{shared_view}
 use Rattle.lalrpop_norm_tyinfer_steps.specs.declared.numbered.Numbered.{Numbered}
 use Rattle.lalrpop_norm_tyinfer_steps.specs.Needs.{names_seen, AreRuleNumbers}
 use Rattle.lalrpop_norm_tyinfer_steps.specs.TableValues.{nonterminal_named, type_by_name}
@@ -15,12 +16,12 @@ abbrev pub names_numbered : Numbered → List (List ℕ)
 names_numbered t = map (λ r. r.0.0) t.rules.items
 
 -- the type that a rule has
-abbrev pub type_of_rule : Option (NonterminalString × Option TypeRepr) → Option ReprData
+abbrev pub type_of_rule : Option (NonterminalString × Option SharedType) → Option ReprData
 type_of_rule None = None
-type_of_rule (Some r) = option_map repr_view r.1
+type_of_rule (Some r) = option_map shared_view r.1
 
 -- the type at a number
-abbrev pub type_at : List (NonterminalString × Option TypeRepr) → Option ℕ → Option ReprData
+abbrev pub type_at : List (NonterminalString × Option SharedType) → Option ℕ → Option ReprData
 type_at rs None = None
 type_at rs (Some k) = type_of_rule (slice_get rs k)
 
@@ -36,6 +37,15 @@ row_if n (Some x) = (nonterminal_named n, x) ∷ []
 abbrev pub typed_rows : (List ℕ → Option ReprData) → List (List ℕ) → List (NonterminalString × ReprData)
 typed_rows f [] = []
 typed_rows f (n ∷ ns) = row_if n (f n) ++ typed_rows f ns
+
+-- the row of a rule, if it has a type
+abbrev pub row_with : NonterminalString → Option SharedType → List (NonterminalString × SharedType)
+row_with n None = []
+row_with n (Some t) = (n, t) ∷ []
+
+-- a row for each rule that has a type
+abbrev pub rows_of_rules : List (NonterminalString × Option SharedType) → List (NonterminalString × SharedType)
+rows_of_rules rs = flat_map (λ r. row_with r.0 r.1) rs
 
 -- the table of types that they are
 abbrev pub numbered_table : Numbered → TypeTable

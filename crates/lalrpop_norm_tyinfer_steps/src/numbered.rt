@@ -1,19 +1,23 @@
 //! The types of rules by number.
-ghost use Rattle.std.specs.Prelude.{◌≡◌, ◌<◌, [], ℕ, List, Option, None, Some, IfOk, OnOk, is_some, length, map, option_map};
+ghost use Rattle.std.specs.Prelude.{◌≡◌, ◌<◌, ◌++◌, [], ℕ, List, Option, None, Some, IfOk, OnOk, is_some, length, map, option_map};
 ghost use Rattle.std.specs.List.Sorted.{IsStrictlySortedBy};
 ghost use Rattle.std.specs.Map.{keys_of};
 ghost use Rattle.lalrpop_norm_names.specs.Numbers.{number_in_table};
 ghost use Rattle.lalrpop_norm_theory.specs.Rounds.{IsDistinct};
 ghost use Rattle.lalrpop_norm_tree_parts.specs.Reprs.{repr_view};
+ghost use Rattle.lalrpop_norm_shared_types.specs.Shared.{shared_view};
+ghost use Rattle.lalrpop_norm_shared_types.specs.Table.{shared_table};
 ghost use Rattle.lalrpop_norm_repr.specs.Orders.{name_cmp, terminal_cmp};
 ghost use Rattle.lalrpop_norm_repr.specs.Tables.{type_table, type_of, type_of_terminal};
 ghost use Rattle.lalrpop_norm_tyinfer_steps.specs.Needs.{AreRuleNumbers};
 ghost use Rattle.lalrpop_norm_tyinfer_steps.specs.Numbered.{names_numbered, type_at, type_by_number, numbered_table};
-ghost use Rattle.lalrpop_norm_tyinfer_steps.specs.Numbered.{IsNumberOf, PutsType, PutsRow};
+ghost use Rattle.lalrpop_norm_tyinfer_steps.specs.Numbered.{row_with, rows_of_rules, IsNumberOf, PutsType, PutsRow};
 ghost use Rattle.lalrpop_norm_tyinfer_steps.specs.TableValues.{type_by_name};
 
 use lalrpop_norm_names::Names;
 use lalrpop_norm_repr::grammar::repr::{TypeRepr, Types};
+use lalrpop_norm_shared_types::shared::SharedType;
+use lalrpop_norm_shared_types::table::SharedTypes;
 use lalrpop_norm_tree::grammar::parse_tree::{NoMemory, NonterminalString, TerminalString};
 use std::alloc::Global;
 
@@ -21,7 +25,7 @@ use std::alloc::Global;
 pub struct Numbered {
     /// The numbers of the names.
     pub names: Names,
-    rules: Vec<(NonterminalString, Option<TypeRepr>)>,
+    rules: Vec<(NonterminalString, Option<SharedType>)>,
     tokens: Types,
 }
 
@@ -58,16 +62,16 @@ impl Numbered {
     }
 
     /// Gives a rule its type.
-    pub fn put(&mut self, number: usize, ty: TypeRepr)
+    pub fn put(&mut self, number: usize, ty: SharedType)
         requires { number < length self.old.rules.items }
-        ensures { PutsType self.old self.new number (repr_view ty) }
+        ensures { PutsType self.old self.new number (shared_view ty) }
     {
         self.rules[number].1 = Some(ty);
     }
 
     /// The nonterminal's type, if it has one yet.
-    pub fn lookup_nonterminal_type(&self, name: &NonterminalString) -> Option<&TypeRepr>
-        ensures { option_map (λ t. repr_view t.now) result ≡ type_of name.now (numbered_table self.now) }
+    pub fn lookup_nonterminal_type(&self, name: &NonterminalString) -> Option<&SharedType>
+        ensures { option_map (λ t. shared_view t.now) result ≡ type_of name.now (numbered_table self.now) }
     {
         match self.names.number(name) {
             Some(number) => self.at(number),
@@ -76,8 +80,8 @@ impl Numbered {
     }
 
     /// The type of a rule, if it has one yet.
-    pub fn at(&self, number: usize) -> Option<&TypeRepr>
-        ensures { option_map (λ t. repr_view t.now) result ≡ type_at self.now.rules.items (Some number) }
+    pub fn at(&self, number: usize) -> Option<&SharedType>
+        ensures { option_map (λ t. shared_view t.now) result ≡ type_at self.now.rules.items (Some number) }
     {
         match self.rules.get(number) {
             Some(rule) => rule.1.as_ref(),
@@ -113,8 +117,8 @@ impl Numbered {
         self.tokens.opt_terminal_loc_type()
     }
 
-    /// The types by name, and the numbers of the names.
-    pub fn by_name(self) -> Result<(Types, Names), NoMemory>
+    /// The types by name, each a whole copy, and the numbers of the names.
+    pub fn by_name(self, alloc: Global) -> Result<(Types, Names), NoMemory>
         requires numbers { AreRuleNumbers (number_in_table self.names) (names_numbered self) }
         requires distinct { IsDistinct (names_numbered self) }
         requires tokens { (type_table self.tokens).nonterminals ≡ [] }
@@ -130,11 +134,31 @@ impl Numbered {
             mut tokens,
         } = self;
         for rule in rules {
-            put_row(&mut tokens, rule.0, rule.1)?;
+            put_row(alloc, &mut tokens, rule.0, rule.1)?;
         }
         // A law, which does nothing: it gives the order of the rows.
         tokens.rows_ascend();
         Ok((tokens, names))
+    }
+
+    /// The types by name, as they are shared.
+    pub fn shared_by_name(self, alloc: Global) -> Result<SharedTypes, NoMemory>
+        requires numbers { AreRuleNumbers (number_in_table self.names) (names_numbered self) }
+        requires distinct { IsDistinct (names_numbered self) }
+        requires tokens { (type_table self.tokens).nonterminals ≡ [] }
+        ensures same { IfOk result (λ t. (n : List ℕ) → type_by_name (shared_table t) n ≡ type_by_name (numbered_table self) n) }
+        ensures rest { IfOk result (λ t. shared_table t ≡ record (numbered_table self) { nonterminals = (shared_table t).nonterminals }) }
+        ensures names_in_order { IfOk result (λ t. IsStrictlySortedBy name_cmp (keys_of (shared_table t).nonterminals)) }
+        ensures terminals_in_order { IfOk result (λ t. IsStrictlySortedBy terminal_cmp (keys_of (shared_table t).terminals)) }
+    {
+        let Numbered {
+            names,
+            rules,
+            tokens,
+        } = self;
+        drop(names);
+        let rows = rows_with_types(alloc, rules)?;
+        SharedTypes::of_rows(alloc, tokens, rows)
     }
 }
 
@@ -142,7 +166,7 @@ impl Numbered {
 fn untyped(
     alloc: Global,
     names: Vec<NonterminalString>,
-) -> Result<Vec<(NonterminalString, Option<TypeRepr>)>, NoMemory>
+) -> Result<Vec<(NonterminalString, Option<SharedType>)>, NoMemory>
     ensures names { IfOk result (λ rs. map (λ r. r.0.0) rs.items ≡ map (λ n. n.0) names.items) }
     ensures untyped { IfOk result (λ rs. (o : Option ℕ) → type_at rs.items o ≡ None) }
 {
@@ -153,13 +177,53 @@ fn untyped(
     Ok(rules)
 }
 
-/// Gives a nonterminal that has no type yet its type, if there is one.
-fn put_row(types: &mut Types, name: NonterminalString, ty: Option<TypeRepr>) -> Result<(), NoMemory>
+/// Gives a nonterminal that has no type yet a copy of its type, if there is one.
+fn put_row(
+    alloc: Global,
+    types: &mut Types,
+    name: NonterminalString,
+    ty: Option<SharedType>,
+) -> Result<(), NoMemory>
     requires { type_by_name (type_table types.old) name.0 ≡ None }
-    ensures { OnOk result (PutsRow (type_table types.old) (type_table types.new) name.0 (option_map repr_view ty)) }
+    ensures { OnOk result (PutsRow (type_table types.old) (type_table types.new) name.0 (option_map shared_view ty)) }
 {
     match ty {
-        Some(ty) => types.add_type(name, ty),
+        Some(ty) => types.add_type(name, ty.to_repr(alloc)?),
         None => Ok(()),
+    }
+}
+
+/// The rules that have types, each with its type.
+fn rows_with_types(
+    alloc: Global,
+    rules: Vec<(NonterminalString, Option<SharedType>)>,
+) -> Result<Vec<(NonterminalString, SharedType)>, NoMemory>
+    ensures { IfOk result (λ rs. rs.items ≡ rows_of_rules rules.items) }
+{
+    let mut rows = Vec::with_capacity(alloc, rules.len())?;
+    for rule in rules {
+        add_row(&mut rows, rule.0, rule.1)?;
+    }
+    Ok(rows)
+}
+
+/// Lists the row of a rule, if it has a type.
+fn add_row(
+    rows: &mut Vec<(NonterminalString, SharedType)>,
+    name: NonterminalString,
+    ty: Option<SharedType>,
+) -> Result<(), NoMemory>
+    ensures { OnOk result (rows.new.items ≡ rows.old.items ++ row_with name ty) }
+{
+    match ty {
+        Some(ty) => {
+            rows.push((name, ty))?;
+            Ok(())
+        }
+        None => {
+            // By a call: where a value of this type ends in place, its drop is proved there, variant by variant.
+            drop(name);
+            Ok(())
+        }
     }
 }

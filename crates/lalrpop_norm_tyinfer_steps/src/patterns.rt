@@ -1,7 +1,7 @@
 //! Tuple patterns over symbols, against the types of these.
 ghost use Rattle.std.specs.Prelude.{◌≡◌, ◌∷◌, [], length, flat_map, map, option_map, if◌then◌else◌};
 ghost use Rattle.lalrpop_norm_tree.specs.Items.{alternative_view, rule_view};
-ghost use Rattle.lalrpop_norm_tree_parts.specs.Reprs.{repr_view, reprs_view};
+ghost use Rattle.lalrpop_norm_shared_types.specs.Shared.{shared_view, shared_all};
 ghost use Rattle.lalrpop_norm_tree.specs.Symbols.{argument_pattern_view, argument_patterns_view, several, tuple_view};
 ghost use Rattle.lalrpop_norm_tree.specs.Symbols.{symbol_view, parts_view, expr_view};
 ghost use Rattle.lalrpop_norm_tree.specs.Accessors.{tuple_of};
@@ -17,7 +17,7 @@ ghost use Rattle.lalrpop_norm_tyinfer_steps.specs.Visits.{plain_rule_view};
 use crate::numbered::Numbered;
 use crate::rules::PlainRule;
 use lalrpop_norm_faults::{FaultKind, NormResult, refusal};
-use lalrpop_norm_repr::grammar::repr::TypeRepr;
+use lalrpop_norm_shared_types::shared::{SharedType, TypeNode};
 use lalrpop_norm_tree::grammar::parse_tree::{
     Alternative, ArgPattern, ExprSymbol, GrammarSymbol, NonterminalData, NonterminalString, Span,
     Symbol, Tuple,
@@ -131,8 +131,8 @@ fn check_named(
 }
 
 #[cycle(pattern)]
-fn check_pattern(alloc: Global, span: Span, pattern: &ArgPattern, ty: &TypeRepr) -> NormResult<()>
-    ensures { Refuses result (faults_at span (misfits (argument_pattern_view pattern.now) (repr_view ty.now))) }
+fn check_pattern(alloc: Global, span: Span, pattern: &ArgPattern, ty: &SharedType) -> NormResult<()>
+    ensures { Refuses result (faults_at span (misfits (argument_pattern_view pattern.now) (shared_view ty.now))) }
 {
     match pattern {
         ArgPattern::Name(_) => Ok(()),
@@ -141,15 +141,20 @@ fn check_pattern(alloc: Global, span: Span, pattern: &ArgPattern, ty: &TypeRepr)
 }
 
 #[cycle(pattern)]
-fn check_names(alloc: Global, span: Span, tuple: &Tuple, ty: &TypeRepr) -> NormResult<()>
-    ensures { Refuses result (faults_at span (misfits (several (tuple_view tuple.now)) (repr_view ty.now))) }
+fn check_names(alloc: Global, span: Span, tuple: &Tuple, ty: &SharedType) -> NormResult<()>
+    ensures { Refuses result (faults_at span (misfits (several (tuple_view tuple.now)) (shared_view ty.now))) }
 {
     check_tuple(alloc, span, &tuple.tuples, ty)
 }
 
 #[cycle(pattern)]
-fn check_tuple(alloc: Global, span: Span, patterns: &[ArgPattern], ty: &TypeRepr) -> NormResult<()>
-    ensures { Refuses result (faults_at span (misfits (several (argument_patterns_view patterns.now)) (repr_view ty.now))) }
+fn check_tuple(
+    alloc: Global,
+    span: Span,
+    patterns: &[ArgPattern],
+    ty: &SharedType,
+) -> NormResult<()>
+    ensures { Refuses result (faults_at span (misfits (several (argument_patterns_view patterns.now)) (shared_view ty.now))) }
 {
     match types_in_tuple(ty) {
         Some(types) => check_parts(alloc, span, patterns, types),
@@ -164,18 +169,18 @@ fn check_tuple(alloc: Global, span: Span, patterns: &[ArgPattern], ty: &TypeRepr
 }
 
 /// The types of a tuple type.
-fn types_in_tuple(ty: &TypeRepr) -> Option<&[TypeRepr]>
-    ensures { option_map (λ ts. reprs_view ts.now) result ≡ types_in_tuple (repr_view ty.now) }
+fn types_in_tuple(ty: &SharedType) -> Option<&[SharedType]>
+    ensures { option_map (λ ts. shared_all ts.now) result ≡ types_in_tuple (shared_view ty.now) }
 {
-    match ty {
-        TypeRepr::Tuple(types) => Some(types.as_slice()),
-        TypeRepr::Slice(_)
-        | TypeRepr::Nominal(_)
-        | TypeRepr::Associated { .. }
-        | TypeRepr::Lifetime(_)
-        | TypeRepr::Ref { .. }
-        | TypeRepr::TraitObject(_)
-        | TypeRepr::Fn { .. } => None,
+    match ty.node() {
+        TypeNode::Tuple(types) => Some(types.as_slice()),
+        TypeNode::Slice(_)
+        | TypeNode::Nominal(_)
+        | TypeNode::Associated { .. }
+        | TypeNode::Lifetime(_)
+        | TypeNode::Ref { .. }
+        | TypeNode::TraitObject(_)
+        | TypeNode::Fn { .. } => None,
     }
 }
 
@@ -184,11 +189,11 @@ fn check_parts(
     alloc: Global,
     span: Span,
     patterns: &[ArgPattern],
-    types: &[TypeRepr],
+    types: &[SharedType],
 ) -> NormResult<()>
     ensures { Refuses result (faults_at span
-        (if as_many (argument_patterns_view patterns.now) (reprs_view types.now)
-        then misfits_of (argument_patterns_view patterns.now) (reprs_view types.now) else (TupleLength ∷ []))) }
+        (if as_many (argument_patterns_view patterns.now) (shared_all types.now)
+        then misfits_of (argument_patterns_view patterns.now) (shared_all types.now) else (TupleLength ∷ []))) }
 {
     let given = patterns.len();
     let wanted = types.len();
@@ -209,10 +214,10 @@ fn check_each(
     alloc: Global,
     span: Span,
     patterns: &[ArgPattern],
-    types: &[TypeRepr],
+    types: &[SharedType],
 ) -> NormResult<()>
     requires { length patterns.now ≡ length types.now }
-    ensures { Refuses result (faults_at span (misfits_of (argument_patterns_view patterns.now) (reprs_view types.now))) }
+    ensures { Refuses result (faults_at span (misfits_of (argument_patterns_view patterns.now) (shared_all types.now))) }
 {
     for i in 0..patterns.len() {
         check_pattern(alloc, span, &patterns[i], &types[i])?;

@@ -1,13 +1,14 @@
 //! Whether two lowered types are equal.
 ghost use Rattle.std.specs.Prelude.{◌≡◌, bytes_eq, option_map};
 ghost use Rattle.lalrpop_norm_tree_parts.specs.Paths.{path_view};
-ghost use Rattle.lalrpop_norm_tree_parts.specs.Reprs.{repr_view, reprs_view, applied_view, maybe_repr_of};
+ghost use Rattle.lalrpop_norm_tree_parts.specs.Reprs.{maybe_repr_of};
 ghost use Rattle.lalrpop_norm_theory.specs.Same.{same_flag};
 ghost use Rattle.lalrpop_norm_model.specs.SameTypes.{same_lifetime, same_parameter, all_same, same_path};
 ghost use Rattle.lalrpop_norm_model.specs.SameTypes.{same_type, same_types, same_return};
+ghost use Rattle.lalrpop_norm_shared_types.specs.Shared.{shared_view, applied_path_view, shared_all};
 ghost use Rattle.lalrpop_norm_tyinfer_steps.specs.SameApplied.{same_applied};
 
-use lalrpop_norm_repr::grammar::repr::{NominalTypeRepr, TypeRepr};
+use lalrpop_norm_shared_types::shared::{AppliedPath, SharedType, TypeNode};
 use lalrpop_norm_tree::grammar::parse_tree::{Atom, Lifetime, Path, TypeParameter};
 
 pub(crate) fn is_same_name(a: &Atom, b: &Atom) -> bool
@@ -80,29 +81,29 @@ fn is_same_path(a: &Path, b: &Path) -> bool
 
 /// Whether the two are equal.
 #[cycle(same)]
-pub fn is_same_type(a: &TypeRepr, b: &TypeRepr) -> bool
-    ensures { result ≡ same_type (repr_view a.now) (repr_view b.now) }
+pub fn is_same_type(a: &SharedType, b: &SharedType) -> bool
+    ensures { result ≡ same_type (shared_view a.now) (shared_view b.now) }
 {
-    match (a, b) {
-        (TypeRepr::Tuple(a), TypeRepr::Tuple(b)) => are_same_types(a, b),
-        (TypeRepr::Slice(a), TypeRepr::Slice(b)) => is_same_type(a, b),
-        (TypeRepr::Nominal(a), TypeRepr::Nominal(b))
-        | (TypeRepr::TraitObject(a), TypeRepr::TraitObject(b)) => is_same_applied(a, b),
+    match (a.node(), b.node()) {
+        (TypeNode::Tuple(a), TypeNode::Tuple(b)) => are_same_types(a, b),
+        (TypeNode::Slice(a), TypeNode::Slice(b)) => is_same_type(a, b),
+        (TypeNode::Nominal(a), TypeNode::Nominal(b)) => is_same_applied(a, b),
+        (TypeNode::TraitObject(a), TypeNode::TraitObject(b)) => is_same_applied(a, b),
         (
-            TypeRepr::Associated { type_parameter, id },
-            TypeRepr::Associated {
+            TypeNode::Associated { type_parameter, id },
+            TypeNode::Associated {
                 type_parameter: other_parameter,
                 id: other_id,
             },
         ) => type_parameter == other_parameter && id == other_id,
-        (TypeRepr::Lifetime(a), TypeRepr::Lifetime(b)) => a.0 == b.0,
+        (TypeNode::Lifetime(a), TypeNode::Lifetime(b)) => a.0 == b.0,
         (
-            TypeRepr::Ref {
+            TypeNode::Ref {
                 lifetime,
                 mutable,
                 referent,
             },
-            TypeRepr::Ref {
+            TypeNode::Ref {
                 lifetime: other_lifetime,
                 mutable: other_mutable,
                 referent: other_referent,
@@ -113,13 +114,13 @@ pub fn is_same_type(a: &TypeRepr, b: &TypeRepr) -> bool
                 && is_same_type(referent, other_referent)
         }
         (
-            TypeRepr::Fn {
+            TypeNode::Fn {
                 forall,
                 path,
                 parameters,
                 ret,
             },
-            TypeRepr::Fn {
+            TypeNode::Fn {
                 forall: other_forall,
                 path: other_path,
                 parameters: other_parameters,
@@ -136,17 +137,17 @@ pub fn is_same_type(a: &TypeRepr, b: &TypeRepr) -> bool
 }
 
 #[cycle(same)]
-fn is_same_applied(a: &NominalTypeRepr, b: &NominalTypeRepr) -> bool
-    ensures { result ≡ same_applied (applied_view a.now) (applied_view b.now) }
+fn is_same_applied(a: &AppliedPath, b: &AppliedPath) -> bool
+    ensures { result ≡ same_applied (applied_path_view a.now) (applied_path_view b.now) }
 {
     is_same_path(&a.path, &b.path) && are_same_types(&a.types, &b.types)
 }
 
 #[cycle(same)]
-fn is_same_return(a: &Option<Box<TypeRepr>>, b: &Option<Box<TypeRepr>>) -> bool
+fn is_same_return(a: &Option<SharedType>, b: &Option<SharedType>) -> bool
     ensures { result
-        ≡ same_return (maybe_repr_of (option_map (λ b. repr_view b.value) a.now))
-        (maybe_repr_of (option_map (λ b. repr_view b.value) b.now)) }
+        ≡ same_return (maybe_repr_of (option_map shared_view a.now))
+        (maybe_repr_of (option_map shared_view b.now)) }
 {
     match (a, b) {
         (None, None) => true,
@@ -156,8 +157,8 @@ fn is_same_return(a: &Option<Box<TypeRepr>>, b: &Option<Box<TypeRepr>>) -> bool
 }
 
 #[cycle(same)]
-fn are_same_types(a: &[TypeRepr], b: &[TypeRepr]) -> bool
-    ensures { result ≡ same_types (reprs_view a.now) (reprs_view b.now) }
+fn are_same_types(a: &[SharedType], b: &[SharedType]) -> bool
+    ensures { result ≡ same_types (shared_all a.now) (shared_all b.now) }
 {
     if a.len() != b.len() {
         return false;

@@ -111,7 +111,7 @@ pub fn rows_to_come(alloc: Global, grammar: &Grammar) -> Result<Vec<Row>, NoMemo
 fn text_rows(alloc: Global, names: &[TerminalString]) -> Result<Vec<Row>, NoMemory>
     ensures { IfOk result (λ rs. rows_seen rs.items ≡ map (λ t. (t, input_str)) names.now) }
 {
-    let mut rows = Vec::new(alloc);
+    let mut rows = Vec::with_capacity(alloc, names.len())?;
     for name in names {
         rows.push(text_row(alloc, name)?)?;
     }
@@ -122,7 +122,7 @@ fn text_rows(alloc: Global, names: &[TerminalString]) -> Result<Vec<Row>, NoMemo
 pub fn entry_rows(alloc: Global, entries: &[MatchEntry]) -> Result<Vec<Row>, NoMemory>
     ensures { IfOk result (λ rs. rows_seen rs.items ≡ map (λ t. (t, input_str)) (user_names entries.now)) }
 {
-    let mut rows = Vec::new(alloc);
+    let mut rows = Vec::with_capacity(alloc, entries.len())?;
     for entry in entries {
         match &entry.user_name {
             MatchMapping::Terminal(terminal) => { rows.push(text_row(alloc, terminal)?)? }
@@ -152,21 +152,22 @@ pub fn type_of_chosen(mut types: Vec<TypeRepr>) -> Option<TypeRepr>
 }
 
 /// Adds each row whose terminal is not listed yet.
-pub fn add_rows(types: &mut Types, rows: &[Row]) -> Result<(), NoMemory>
-    ensures { OnOk result (AddsTerminals (type_table types.old) (type_table types.new) (rows_seen rows.now)) }
+pub fn add_rows(types: &mut Types, rows: Vec<Row>) -> Result<(), NoMemory>
+    ensures { OnOk result (AddsTerminals (type_table types.old) (type_table types.new) (rows_seen rows.items)) }
 {
-    for (terminal, ty) in rows {
-        add_row(types, terminal, ty)?;
+    for row in rows {
+        add_row(types, row)?;
     }
     Ok(())
 }
 
-fn add_row(types: &mut Types, terminal: &TerminalString, ty: &TypeRepr) -> Result<(), NoMemory>
-    ensures { OnOk result (AddsTerminals (type_table types.old) (type_table types.new) ((terminal.now, repr_view ty.now) ∷ [])) }
+fn add_row(types: &mut Types, row: Row) -> Result<(), NoMemory>
+    ensures { OnOk result (AddsTerminals (type_table types.old) (type_table types.new) (rows_seen (row ∷ []))) }
 {
-    let is_listed = types.has_term_type(terminal);
+    let (terminal, ty) = row;
+    let is_listed = types.has_term_type(&terminal);
     if !is_listed {
-        types.add_term_type(terminal.clone()?, ty.clone()?)?;
+        types.add_term_type(terminal, ty)?;
     }
     Ok(())
 }

@@ -1,8 +1,9 @@
 //! What symbols give and written types mean by a table of types.
-ghost use Rattle.std.specs.Prelude.{◌≡◌, IfOk, option_map};
+ghost use Rattle.std.specs.Prelude.{◌≡◌, Some, IfOk, option_map};
 ghost use Rattle.lalrpop_norm_tree_parts.specs.Paths.{path_view};
 ghost use Rattle.lalrpop_norm_tree_parts.specs.Reprs as lowered;
-ghost use Rattle.lalrpop_norm_tree_parts.specs.Reprs.{repr_view, reprs_view, applied_view, maybe_repr_of};
+ghost use Rattle.lalrpop_norm_tree_parts.specs.Reprs.{repr_view, maybe_repr_of};
+ghost use Rattle.lalrpop_norm_shared_types.specs.Shared.{shared_view, node_view, applied_path_view, shared_all};
 ghost use Rattle.lalrpop_norm_tree.specs.LoweredTypes.{named_path};
 ghost use Rattle.lalrpop_norm_tree.specs.Symbols.{kind_view};
 ghost use Rattle.lalrpop_norm_tree.specs.Traversal.{wrapped_kind};
@@ -14,11 +15,11 @@ ghost use Rattle.lalrpop_norm_tyinfer_steps.specs.TableValues.{kind_in, table_ty
 
 use crate::numbered::Numbered;
 use crate::same::is_same_name;
-use lalrpop_norm_repr::grammar::repr::{NominalTypeRepr, TypeRepr};
+use lalrpop_norm_repr::grammar::repr::TypeRepr;
+use lalrpop_norm_shared_types::shared::{AppliedPath, SharedType, TypeNode};
 use lalrpop_norm_tree::grammar::parse_tree::{
     Atom, GrammarSymbol, Lifetime, NoMemory, Path, SymbolKind, TypeParameter, TypeRef,
 };
-use lalrpop_norm_tree_parts::lowered::copy::copy_of;
 use lalrpop_norm_tree_parts::names::copy::copy_type_parameters;
 use std::alloc::Global;
 
@@ -35,23 +36,55 @@ pub(crate) fn under_wrappers(kind: &SymbolKind) -> &SymbolKind
     }
 }
 
-/// A copy of the type that a symbol gives, if it gives one by the table.
-pub fn kind_value(types: &Numbered, kind: &SymbolKind) -> Result<Option<TypeRepr>, NoMemory>
-    ensures { IfOk result (λ o. option_map repr_view o ≡ kind_in (numbered_table types.now) (kind_view kind.now)) }
+/// The type that a symbol gives, if it gives one by the table: one more owner of that of a nonterminal.
+pub fn kind_value(
+    alloc: Global,
+    types: &Numbered,
+    kind: &SymbolKind,
+) -> Result<Option<SharedType>, NoMemory>
+    ensures { IfOk result (λ o. option_map shared_view o ≡ kind_in (numbered_table types.now) (kind_view kind.now)) }
 {
-    Ok(copy_of(given_type(types, under_wrappers(kind)))?)
+    given_type(alloc, types, under_wrappers(kind))
 }
 
 /// The type that a grammar symbol has by the table; nothing for any other.
-fn given_type<'t>(types: &'t Numbered, kind: &SymbolKind) -> Option<&'t TypeRepr>
-    ensures { option_map (λ t. repr_view t.now) result ≡ leaf_type (table_types (numbered_table types.now)) (kind_view kind.now) }
+fn given_type(
+    alloc: Global,
+    types: &Numbered,
+    kind: &SymbolKind,
+) -> Result<Option<SharedType>, NoMemory>
+    ensures { IfOk result (λ o. option_map shared_view o ≡ leaf_type (table_types (numbered_table types.now)) (kind_view kind.now)) }
 {
     match kind.as_grammar_symbol() {
-        Some(GrammarSymbol::Terminal(terminal)) => Some(types.terminal_type(terminal)),
-        Some(GrammarSymbol::Nonterminal(name)) => types.lookup_nonterminal_type(name),
-        Some(GrammarSymbol::Error) => Some(types.error_recovery_type()),
-        None => None,
+        Some(GrammarSymbol::Terminal(terminal)) => copied(alloc, types.terminal_type(terminal)),
+        Some(GrammarSymbol::Nonterminal(name)) => shared(types.lookup_nonterminal_type(name)),
+        Some(GrammarSymbol::Error) => copied(alloc, types.error_recovery_type()),
+        None => Ok(None),
     }
+}
+
+/// A copy of the type.
+fn copied(alloc: Global, ty: &TypeRepr) -> Result<Option<SharedType>, NoMemory>
+    ensures { IfOk result (λ o. option_map shared_view o ≡ Some (repr_view ty.now)) }
+{
+    Ok(Some(SharedType::of(alloc, ty)?))
+}
+
+/// One more owner of the type, if it is there.
+fn shared(ty: Option<&SharedType>) -> Result<Option<SharedType>, NoMemory>
+    ensures { IfOk result (λ o. option_map shared_view o ≡ option_map (λ t. shared_view t.now) ty.entry) }
+{
+    match ty {
+        Some(ty) => Ok(Some(ty.clone()?)),
+        None => Ok(None),
+    }
+}
+
+/// The type of that one level.
+fn made(alloc: Global, node: TypeNode) -> Result<Option<SharedType>, NoMemory>
+    ensures { IfOk result (λ o. option_map shared_view o ≡ Some (node_view node)) }
+{
+    Ok(Some(SharedType::new(alloc, node)?))
 }
 
 fn is_parameter_of(name: &Atom, parameter: &TypeParameter) -> bool
@@ -93,15 +126,15 @@ pub(crate) fn associated<'a>(
     }
 }
 
-/// A copy of the type that a written one means, if each symbol in it gives a type by the table.
+/// The type that a written one means, if each symbol in it gives a type by the table.
 #[cycle(value)]
 pub fn type_value(
     alloc: Global,
     parameters: &[TypeParameter],
     types: &Numbered,
     written: &TypeRef,
-) -> Result<Option<TypeRepr>, NoMemory>
-    ensures { IfOk result (λ o. option_map repr_view o ≡ type_in parameters.now (numbered_table types.now) (type_view written.now)) }
+) -> Result<Option<SharedType>, NoMemory>
+    ensures { IfOk result (λ o. option_map shared_view o ≡ type_in parameters.now (numbered_table types.now) (type_view written.now)) }
 {
     match written {
         TypeRef::Tuple(inner) => tuple_value(alloc, parameters, types, inner),
@@ -117,9 +150,9 @@ pub fn type_value(
         TypeRef::TraitObject { path, types: inner } => {
             object_value(alloc, parameters, types, path, inner)
         }
-        TypeRef::Lifetime(lifetime) => Ok(Some(lifetime_type(lifetime)?)),
-        TypeRef::Id(id) => Ok(Some(named_type(alloc, id)?)),
-        TypeRef::OfSymbol(kind) => kind_value(types, kind),
+        TypeRef::Lifetime(lifetime) => lifetime_type(alloc, lifetime),
+        TypeRef::Id(id) => named_type(alloc, id),
+        TypeRef::OfSymbol(kind) => kind_value(alloc, types, kind),
         TypeRef::Fn {
             forall,
             path,
@@ -128,24 +161,8 @@ pub fn type_value(
         } => {
             let inner = all_values(alloc, parameters, types, inner)?;
             let ret = return_value(alloc, parameters, types, ret)?;
-            function_of(forall, path, inner, ret)
+            function_of(alloc, forall, path, inner, ret)
         }
-    }
-}
-
-#[cycle(value)]
-fn boxed_value(
-    alloc: Global,
-    parameters: &[TypeParameter],
-    types: &Numbered,
-    written: &TypeRef,
-) -> Result<Option<Box<TypeRepr>>, NoMemory>
-    ensures { IfOk result (λ o. option_map (λ b. repr_view b.value) o
-        ≡ type_in parameters.now (numbered_table types.now) (type_view written.now)) }
-{
-    match type_value(alloc, parameters, types, written)? {
-        Some(ty) => Ok(Some(Box::new(alloc, ty)?)),
-        None => Ok(None),
     }
 }
 
@@ -155,12 +172,12 @@ fn slice_value(
     parameters: &[TypeParameter],
     types: &Numbered,
     inner: &TypeRef,
-) -> Result<Option<TypeRepr>, NoMemory>
-    ensures { IfOk result (λ o. option_map repr_view o
+) -> Result<Option<SharedType>, NoMemory>
+    ensures { IfOk result (λ o. option_map shared_view o
         ≡ option_map lowered.slice (type_in parameters.now (numbered_table types.now) (type_view inner.now))) }
 {
-    match boxed_value(alloc, parameters, types, inner)? {
-        Some(ty) => Ok(Some(TypeRepr::Slice(ty))),
+    match type_value(alloc, parameters, types, inner)? {
+        Some(ty) => made(alloc, TypeNode::Slice(ty)),
         None => Ok(None),
     }
 }
@@ -173,12 +190,12 @@ fn reference_value(
     lifetime: &Option<Lifetime>,
     mutable: bool,
     inner: &TypeRef,
-) -> Result<Option<TypeRepr>, NoMemory>
-    ensures { IfOk result (λ o. option_map repr_view o
+) -> Result<Option<SharedType>, NoMemory>
+    ensures { IfOk result (λ o. option_map shared_view o
         ≡ option_map (lowered.reference lifetime.now mutable) (type_in parameters.now (numbered_table types.now) (type_view inner.now))) }
 {
-    match boxed_value(alloc, parameters, types, inner)? {
-        Some(referent) => Ok(Some(reference_type(lifetime, mutable, referent)?)),
+    match type_value(alloc, parameters, types, inner)? {
+        Some(referent) => reference_type(alloc, lifetime, mutable, referent),
         None => Ok(None),
     }
 }
@@ -189,12 +206,12 @@ fn tuple_value(
     parameters: &[TypeParameter],
     types: &Numbered,
     inner: &[TypeRef],
-) -> Result<Option<TypeRepr>, NoMemory>
-    ensures { IfOk result (λ o. option_map repr_view o
+) -> Result<Option<SharedType>, NoMemory>
+    ensures { IfOk result (λ o. option_map shared_view o
         ≡ option_map lowered.tuple (types_in parameters.now (numbered_table types.now) (types_view inner.now))) }
 {
     match all_values(alloc, parameters, types, inner)? {
-        Some(inner) => Ok(Some(TypeRepr::Tuple(inner))),
+        Some(inner) => made(alloc, TypeNode::Tuple(inner)),
         None => Ok(None),
     }
 }
@@ -207,13 +224,13 @@ fn path_value(
     types: &Numbered,
     path: &Path,
     inner: &[TypeRef],
-) -> Result<Option<TypeRepr>, NoMemory>
-    ensures { IfOk result (λ o. option_map repr_view o
+) -> Result<Option<SharedType>, NoMemory>
+    ensures { IfOk result (λ o. option_map shared_view o
         ≡ path_value (associated_in parameters.now (path_view path.now).ids) (path_view path.now)
         (types_in parameters.now (numbered_table types.now) (types_view inner.now))) }
 {
     match associated(parameters, path) {
-        Some((parameter, id)) => Ok(Some(associated_type(parameter, id)?)),
+        Some((parameter, id)) => associated_type(alloc, parameter, id),
         None => nominal_value(alloc, parameters, types, path, inner),
     }
 }
@@ -225,8 +242,8 @@ fn applied_value(
     types: &Numbered,
     path: &Path,
     inner: &[TypeRef],
-) -> Result<Option<NominalTypeRepr>, NoMemory>
-    ensures { IfOk result (λ o. option_map applied_view o
+) -> Result<Option<AppliedPath>, NoMemory>
+    ensures { IfOk result (λ o. option_map applied_path_view o
         ≡ option_map (λ xs. (path_view path.now, xs)) (types_in parameters.now (numbered_table types.now) (types_view inner.now))) }
 {
     match all_values(alloc, parameters, types, inner)? {
@@ -242,12 +259,12 @@ fn nominal_value(
     types: &Numbered,
     path: &Path,
     inner: &[TypeRef],
-) -> Result<Option<TypeRepr>, NoMemory>
-    ensures { IfOk result (λ o. option_map repr_view o
+) -> Result<Option<SharedType>, NoMemory>
+    ensures { IfOk result (λ o. option_map shared_view o
         ≡ option_map (lowered.nominal (path_view path.now)) (types_in parameters.now (numbered_table types.now) (types_view inner.now))) }
 {
     match applied_value(alloc, parameters, types, path, inner)? {
-        Some(applied) => Ok(Some(TypeRepr::Nominal(applied))),
+        Some(applied) => made(alloc, TypeNode::Nominal(applied)),
         None => Ok(None),
     }
 }
@@ -259,40 +276,44 @@ fn object_value(
     types: &Numbered,
     path: &Path,
     inner: &[TypeRef],
-) -> Result<Option<TypeRepr>, NoMemory>
-    ensures { IfOk result (λ o. option_map repr_view o
+) -> Result<Option<SharedType>, NoMemory>
+    ensures { IfOk result (λ o. option_map shared_view o
         ≡ option_map (lowered.trait_object (path_view path.now))
         (types_in parameters.now (numbered_table types.now) (types_view inner.now))) }
 {
     match applied_value(alloc, parameters, types, path, inner)? {
-        Some(applied) => Ok(Some(TypeRepr::TraitObject(applied))),
+        Some(applied) => made(alloc, TypeNode::TraitObject(applied)),
         None => Ok(None),
     }
 }
 
 /// `T::Id`.
-pub(crate) fn associated_type(parameter: &Atom, id: &Atom) -> Result<TypeRepr, NoMemory>
-    ensures { IfOk result (λ r. repr_view r ≡ lowered.associated parameter.now id.now) }
+fn associated_type(
+    alloc: Global,
+    parameter: &Atom,
+    id: &Atom,
+) -> Result<Option<SharedType>, NoMemory>
+    ensures { IfOk result (λ o. option_map shared_view o ≡ Some (lowered.associated parameter.now id.now)) }
 {
-    Ok(TypeRepr::Associated {
-        type_parameter: parameter.clone()?,
-        id: id.clone()?,
-    })
+    let type_parameter = parameter.clone()?;
+    let id = id.clone()?;
+    made(alloc, TypeNode::Associated { type_parameter, id })
 }
 
 /// The type of a function over these types, if all are there.
 fn function_of(
+    alloc: Global,
     forall: &Vec<TypeParameter>,
     path: &Path,
-    parameters: Option<Vec<TypeRepr>>,
-    ret: Option<Option<Box<TypeRepr>>>,
-) -> Result<Option<TypeRepr>, NoMemory>
-    ensures { IfOk result (λ o. option_map repr_view o
-        ≡ both (lowered.function forall.now.items (path_view path.now)) (option_map (λ ts. reprs_view ts.items) parameters)
-        (option_map (λ r. maybe_repr_of (option_map (λ b. repr_view b.value) r)) ret)) }
+    parameters: Option<Vec<SharedType>>,
+    ret: Option<Option<SharedType>>,
+) -> Result<Option<SharedType>, NoMemory>
+    ensures { IfOk result (λ o. option_map shared_view o
+        ≡ both (lowered.function forall.now.items (path_view path.now)) (option_map (λ ts. shared_all ts.items) parameters)
+        (option_map (λ r. maybe_repr_of (option_map shared_view r)) ret)) }
 {
     match (parameters, ret) {
-        (Some(parameters), Some(ret)) => Ok(Some(function_type(forall, path, parameters, ret)?)),
+        (Some(parameters), Some(ret)) => function_type(alloc, forall, path, parameters, ret),
         (Some(_), None) => Ok(None),
         (None, _) => Ok(None),
     }
@@ -304,28 +325,28 @@ fn return_value(
     parameters: &[TypeParameter],
     types: &Numbered,
     ret: &Option<Box<TypeRef>>,
-) -> Result<Option<Option<Box<TypeRepr>>>, NoMemory>
-    ensures { IfOk result (λ o. option_map (λ r. maybe_repr_of (option_map (λ b. repr_view b.value) r)) o
+) -> Result<Option<Option<SharedType>>, NoMemory>
+    ensures { IfOk result (λ o. option_map (λ r. maybe_repr_of (option_map shared_view r)) o
         ≡ return_in parameters.now (numbered_table types.now) (maybe_of (option_map (λ b. type_view b.value) ret.now))) }
 {
     match ret {
         None => Ok(Some(None)),
-        Some(written) => match boxed_value(alloc, parameters, types, written)? {
+        Some(written) => match type_value(alloc, parameters, types, written)? {
             Some(ty) => Ok(Some(Some(ty))),
             None => Ok(None),
         },
     }
 }
 
-/// Copies of the types that these mean, if each means one.
+/// The types that these mean, if each means one.
 #[cycle(value)]
 fn all_values(
     alloc: Global,
     parameters: &[TypeParameter],
     types: &Numbered,
     written: &[TypeRef],
-) -> Result<Option<Vec<TypeRepr>>, NoMemory>
-    ensures { IfOk result (λ o. option_map (λ ts. reprs_view ts.items) o
+) -> Result<Option<Vec<SharedType>>, NoMemory>
+    ensures { IfOk result (λ o. option_map (λ ts. shared_all ts.items) o
         ≡ types_in parameters.now (numbered_table types.now) (types_view written.now)) }
 {
     let mut values = Vec::with_capacity(alloc, written.len())?;
@@ -338,48 +359,54 @@ fn all_values(
     Ok(Some(values))
 }
 
-fn lifetime_type(lifetime: &Lifetime) -> Result<TypeRepr, NoMemory>
-    ensures { IfOk result (λ r. repr_view r ≡ lowered.of_lifetime lifetime.now) }
+/// `'a`, as an argument of a path.
+fn lifetime_type(alloc: Global, lifetime: &Lifetime) -> Result<Option<SharedType>, NoMemory>
+    ensures { IfOk result (λ o. option_map shared_view o ≡ Some (lowered.of_lifetime lifetime.now)) }
 {
-    Ok(TypeRepr::Lifetime(lifetime.clone()?))
+    made(alloc, TypeNode::Lifetime(lifetime.clone()?))
 }
 
 /// The type of that one name.
-fn named_type(alloc: Global, id: &Atom) -> Result<TypeRepr, NoMemory>
-    ensures { IfOk result (λ r. repr_view r ≡ lowered.nominal (named_path id.now) lowered.no_reprs) }
+fn named_type(alloc: Global, id: &Atom) -> Result<Option<SharedType>, NoMemory>
+    ensures { IfOk result (λ o. option_map shared_view o ≡ Some (lowered.nominal (named_path id.now) lowered.no_reprs)) }
 {
-    Ok(TypeRepr::Nominal(named(alloc, id)?))
+    made(alloc, TypeNode::Nominal(named(alloc, id)?))
 }
 
 /// The path that is one name, without arguments.
-fn named(alloc: Global, id: &Atom) -> Result<NominalTypeRepr, NoMemory>
-    ensures { IfOk result (λ n. applied_view n ≡ (named_path id.now, lowered.no_reprs)) }
+fn named(alloc: Global, id: &Atom) -> Result<AppliedPath, NoMemory>
+    ensures { IfOk result (λ n. applied_path_view n ≡ (named_path id.now, lowered.no_reprs)) }
 {
     let path = Path::from_id(alloc, id.clone()?)?;
     let types = Vec::new(alloc);
-    Ok(NominalTypeRepr { path, types })
+    Ok(AppliedPath { path, types })
 }
 
 /// The reference type to that lowered one.
 fn reference_type(
+    alloc: Global,
     lifetime: &Option<Lifetime>,
     mutable: bool,
-    referent: Box<TypeRepr>,
-) -> Result<TypeRepr, NoMemory>
-    ensures { IfOk result (λ r. repr_view r ≡ lowered.reference lifetime.now mutable (repr_view referent.value)) }
+    referent: SharedType,
+) -> Result<Option<SharedType>, NoMemory>
+    ensures { IfOk result (λ o. option_map shared_view o ≡ Some (lowered.reference lifetime.now mutable (shared_view referent))) }
 {
-    Ok(TypeRepr::Ref {
-        lifetime: lifetime.clone()?,
-        mutable,
-        referent,
-    })
+    let lifetime = lifetime.clone()?;
+    made(
+        alloc,
+        TypeNode::Ref {
+            lifetime,
+            mutable,
+            referent,
+        },
+    )
 }
 
 /// The path over these lowered arguments.
-fn applied_to(path: &Path, types: Vec<TypeRepr>) -> Result<NominalTypeRepr, NoMemory>
-    ensures { IfOk result (λ n. applied_view n ≡ (path_view path.now, reprs_view types.items)) }
+fn applied_to(path: &Path, types: Vec<SharedType>) -> Result<AppliedPath, NoMemory>
+    ensures { IfOk result (λ n. applied_path_view n ≡ (path_view path.now, shared_all types.items)) }
 {
-    Ok(NominalTypeRepr {
+    Ok(AppliedPath {
         path: path.clone()?,
         types,
     })
@@ -387,21 +414,25 @@ fn applied_to(path: &Path, types: Vec<TypeRepr>) -> Result<NominalTypeRepr, NoMe
 
 /// The function type over these lowered parts.
 fn function_type(
+    alloc: Global,
     forall: &Vec<TypeParameter>,
     path: &Path,
-    parameters: Vec<TypeRepr>,
-    ret: Option<Box<TypeRepr>>,
-) -> Result<TypeRepr, NoMemory>
-    ensures { IfOk result (λ r. repr_view r
-        ≡ lowered.function forall.now.items (path_view path.now) (reprs_view parameters.items)
-        (maybe_repr_of (option_map (λ b. repr_view b.value) ret))) }
+    parameters: Vec<SharedType>,
+    ret: Option<SharedType>,
+) -> Result<Option<SharedType>, NoMemory>
+    ensures { IfOk result (λ o. option_map shared_view o
+        ≡ Some (lowered.function forall.now.items (path_view path.now) (shared_all parameters.items)
+        (maybe_repr_of (option_map shared_view ret)))) }
 {
     let forall = copy_type_parameters(forall)?;
     let path = path.clone()?;
-    Ok(TypeRepr::Fn {
-        forall,
-        path,
-        parameters,
-        ret,
-    })
+    made(
+        alloc,
+        TypeNode::Fn {
+            forall,
+            path,
+            parameters,
+            ret,
+        },
+    )
 }

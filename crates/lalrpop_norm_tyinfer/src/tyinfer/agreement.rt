@@ -2,17 +2,17 @@
 ghost use Rattle.std.specs.Prelude.{List, flat_map, map, option_map};
 ghost use Rattle.lalrpop_norm_tree_names.specs.declared.names.TypeParameter.{TypeParameter};
 ghost use Rattle.lalrpop_norm_tree.specs.Items.{alternative_view};
-ghost use Rattle.lalrpop_norm_tree_parts.specs.Reprs.{repr_view};
 ghost use Rattle.lalrpop_norm_faults.specs.Faults.{Refuses, fault_if};
 ghost use Rattle.lalrpop_norm_faults.specs.declared.kind.FaultKind.TheVariants.{Disagreement};
 ghost use Rattle.lalrpop_norm_model.specs.InferenceFaults.{is_other};
+ghost use Rattle.lalrpop_norm_shared_types.specs.Shared.{shared_view};
 ghost use Rattle.lalrpop_norm_tyinfer_steps.specs.Numbered.{numbered_table};
 ghost use Rattle.lalrpop_norm_tyinfer_steps.specs.TableFaults.{other_in, others_in};
 ghost use Rattle.lalrpop_norm_tyinfer_steps.specs.Visits.{plain_rule_view};
 
 use crate::tyinfer::clause_values::clause_value;
 use lalrpop_norm_faults::{FaultKind, NormResult, refusal};
-use lalrpop_norm_repr::grammar::repr::TypeRepr;
+use lalrpop_norm_shared_types::shared::SharedType;
 use lalrpop_norm_tree::grammar::parse_tree::{Alternative, NonterminalString, Span};
 use lalrpop_norm_tyinfer_steps::numbered::Numbered;
 use lalrpop_norm_tyinfer_steps::rules::PlainRule;
@@ -89,11 +89,11 @@ fn check_same(
     alloc: Global,
     name: &NonterminalString,
     span: Span,
-    given: &Option<TypeRepr>,
-    own: Option<&TypeRepr>,
+    given: &Option<SharedType>,
+    own: Option<&SharedType>,
 ) -> NormResult<()>
     ensures { Refuses result
-        (fault_if (is_other (option_map repr_view given.now) (option_map (λ t. repr_view t.now) own.entry)) (Disagreement, span)) }
+        (fault_if (is_other (option_map shared_view given.now) (option_map (λ t. shared_view t.now) own.entry)) (Disagreement, span)) }
 {
     match (given, own) {
         (None, _) => Ok(()),

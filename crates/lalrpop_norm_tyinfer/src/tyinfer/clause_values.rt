@@ -1,38 +1,41 @@
 //! What the clauses of a rule make of a table of types.
-ghost use Rattle.std.specs.Prelude.{◌≡◌, List, IfOk, map, option_map};
+ghost use Rattle.std.specs.Prelude.{◌≡◌, List, Some, IfOk, map, option_map};
 ghost use Rattle.lalrpop_norm_tree_names.specs.declared.names.TypeParameter.{TypeParameter};
-ghost use Rattle.lalrpop_norm_tree_parts.specs.Reprs.{repr_view, reprs_view};
+ghost use Rattle.lalrpop_norm_tree_parts.specs.Reprs.{tuple};
 ghost use Rattle.lalrpop_norm_tree.specs.Symbols.{kind_view};
+ghost use Rattle.lalrpop_norm_shared_types.specs.Shared.{shared_view, shared_all};
 ghost use Rattle.lalrpop_norm_tyinfer_steps.specs.Clauses.{kinds_in, sources_in, clause_view, clauses_view, clause_in, first_in};
 ghost use Rattle.lalrpop_norm_tyinfer_steps.specs.Numbered.{numbered_table};
 
-use lalrpop_norm_repr::grammar::repr::TypeRepr;
+use lalrpop_norm_shared_types::shared::{SharedType, TypeNode};
 use lalrpop_norm_tree::grammar::parse_tree::{NoMemory, Symbol, TypeParameter};
-use lalrpop_norm_tree_parts::lowered::copy::copy_of;
 use lalrpop_norm_tyinfer_steps::numbered::Numbered;
 use lalrpop_norm_tyinfer_steps::type_sources::{RuleClauses, TypeSource};
 use lalrpop_norm_tyinfer_steps::values::{kind_value, type_value};
 use std::alloc::Global;
 
-/// A copy of the type that a clause of an alternative makes of the table, if it makes one, whatever the type parameters.
+/// The type that a clause of an alternative makes of the table, if it makes one, whatever the type parameters.
 pub(crate) fn clause_value(
     alloc: Global,
     types: &Numbered,
     clause: &TypeSource,
-) -> Result<Option<TypeRepr>, NoMemory>
+) -> Result<Option<SharedType>, NoMemory>
     ensures { IfOk result (λ o. (ps : List TypeParameter) →
-        option_map repr_view o ≡ clause_in ps (numbered_table types.now) (clause_view clause.now)) }
+        option_map shared_view o ≡ clause_in ps (numbered_table types.now) (clause_view clause.now)) }
 {
     match clause {
         TypeSource::Sources(sources) => sources_value(alloc, types, sources),
-        TypeSource::Location => location_value(types),
+        TypeSource::Location => location_value(alloc, types),
     }
 }
 
-fn location_value(types: &Numbered) -> Result<Option<TypeRepr>, NoMemory>
-    ensures { IfOk result (λ o. option_map repr_view o ≡ (numbered_table types.now).location) }
+fn location_value(alloc: Global, types: &Numbered) -> Result<Option<SharedType>, NoMemory>
+    ensures { IfOk result (λ o. option_map shared_view o ≡ (numbered_table types.now).location) }
 {
-    Ok(copy_of(types.opt_terminal_loc_type())?)
+    match types.opt_terminal_loc_type() {
+        Some(ty) => Ok(Some(SharedType::of(alloc, ty)?)),
+        None => Ok(None),
+    }
 }
 
 /// The type of the values of these symbols, each with its index: one bare, any other number of them as a tuple.
@@ -40,30 +43,38 @@ fn sources_value(
     alloc: Global,
     types: &Numbered,
     sources: &[(usize, &Symbol)],
-) -> Result<Option<TypeRepr>, NoMemory>
-    ensures { IfOk result (λ o. option_map repr_view o
+) -> Result<Option<SharedType>, NoMemory>
+    ensures { IfOk result (λ o. option_map shared_view o
         ≡ sources_in (numbered_table types.now) (map (λ t. kind_view t.1.now.kind) sources.now)) }
 {
     match sources {
-        [source] => kind_value(types, &source.1.kind),
+        [source] => kind_value(alloc, types, &source.1.kind),
         _ => match all_values(alloc, types, sources)? {
-            Some(values) => Ok(Some(TypeRepr::Tuple(values))),
+            Some(values) => tuple_type(alloc, values),
             None => Ok(None),
         },
     }
+}
+
+/// The tuple of these types.
+fn tuple_type(alloc: Global, types: Vec<SharedType>) -> Result<Option<SharedType>, NoMemory>
+    ensures { IfOk result (λ o. option_map shared_view o ≡ Some (tuple (shared_all types.items))) }
+{
+    let ty = SharedType::new(alloc, TypeNode::Tuple(types))?;
+    Ok(Some(ty))
 }
 
 fn all_values(
     alloc: Global,
     types: &Numbered,
     sources: &[(usize, &Symbol)],
-) -> Result<Option<Vec<TypeRepr>>, NoMemory>
-    ensures { IfOk result (λ o. option_map (λ ts. reprs_view ts.items) o
+) -> Result<Option<Vec<SharedType>>, NoMemory>
+    ensures { IfOk result (λ o. option_map (λ ts. shared_all ts.items) o
         ≡ kinds_in (numbered_table types.now) (map (λ t. kind_view t.1.now.kind) sources.now)) }
 {
     let mut values = Vec::with_capacity(alloc, sources.len())?;
     for source in sources {
-        match kind_value(types, &source.1.kind)? {
+        match kind_value(alloc, types, &source.1.kind)? {
             Some(ty) => values.push(ty)?,
             None => return Ok(None),
         }
@@ -71,14 +82,14 @@ fn all_values(
     Ok(Some(values))
 }
 
-/// A copy of the type that the first clause of a rule makes of the table that makes one.
+/// The type that the first clause of a rule makes of the table that makes one.
 pub(crate) fn first_value(
     alloc: Global,
     parameters: &[TypeParameter],
     types: &Numbered,
     clauses: &RuleClauses,
-) -> Result<Option<TypeRepr>, NoMemory>
-    ensures { IfOk result (λ o. option_map repr_view o ≡ first_in parameters.now (numbered_table types.now) (clauses_view clauses.now)) }
+) -> Result<Option<SharedType>, NoMemory>
+    ensures { IfOk result (λ o. option_map shared_view o ≡ first_in parameters.now (numbered_table types.now) (clauses_view clauses.now)) }
 {
     match clauses {
         RuleClauses::Declared(written) => type_value(alloc, parameters, types, written),
@@ -86,14 +97,14 @@ pub(crate) fn first_value(
     }
 }
 
-/// A copy of the type that the first of these alternatives' clauses makes that makes one, whatever the type parameters.
+/// The type that the first of these alternatives' clauses makes that makes one, whatever the type parameters.
 fn first_given(
     alloc: Global,
     types: &Numbered,
     clauses: &[TypeSource],
-) -> Result<Option<TypeRepr>, NoMemory>
+) -> Result<Option<SharedType>, NoMemory>
     ensures { IfOk result (λ o. (ps : List TypeParameter) →
-        option_map repr_view o ≡ first_in ps (numbered_table types.now) (map clause_view clauses.now)) }
+        option_map shared_view o ≡ first_in ps (numbered_table types.now) (map clause_view clauses.now)) }
 {
     for clause in clauses {
         if let Some(ty) = clause_value(alloc, types, clause)? {

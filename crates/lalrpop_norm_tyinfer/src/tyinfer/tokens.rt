@@ -24,7 +24,7 @@ pub(crate) fn token_types(alloc: Global, grammar: &Grammar) -> Result<Types, NoM
 {
     let mut types = base_types(alloc, grammar)?;
     let rows = token_rows(alloc, grammar)?;
-    add_rows(&mut types, &rows)?;
+    add_rows(&mut types, rows)?;
     Ok(types)
 }
 

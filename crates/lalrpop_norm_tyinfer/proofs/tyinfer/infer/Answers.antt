@@ -1,4 +1,4 @@
-use Rattle.std.proofs.Common.{◌≡◌, ℕ, List, map, refl, sym, subst}
+use Rattle.std.proofs.Common.{ℕ, List, map, sym, subst}
 use Rattle.lalrpop_norm_names.specs.Numbers.{number_in_table, IsNumbering}
 use Rattle.lalrpop_norm_theory.specs.Rounds.{IsDistinct}
 use Rattle.lalrpop_norm_tree.specs.Items.{grammar_view}
@@ -8,28 +8,8 @@ use Rattle.lalrpop_norm_tyinfer_steps.specs.Needs.{AreRuleNumbers, names_seen}
 use Rattle.lalrpop_norm_tyinfer_steps.specs.Visits.{rule_seen}
 use Rattle.lalrpop_norm_tyinfer_steps.specs.Numbered.{numbered_table}
 use Rattle.lalrpop_norm_tyinfer_steps.proofs.NumberLemmas.{number_is_place}
-use Rattle.lalrpop_norm_tyinfer_steps.proofs.FilledLemmas.{names_of_all, names_distinct, clauses_refused, table_refused, none_refused, none_inferred}
+use Rattle.lalrpop_norm_tyinfer_steps.proofs.FilledLemmas.{names_of_all, names_distinct, filled_inferred, filled_same}
 use Rattle.lalrpop_norm_tyinfer.proofs.tyinfer.infer.Goals as goal
-
-pub returns-in_err-check_clauses-clause-refuses : goal.returns-in_err-check_clauses-clause-refuses
-returns-in_err-check_clauses-clause-refuses c =
-    clauses_refused (grammar_view c.args.grammar.now) c.args.rules.now _ _ c.requires.seen c.from_residual.ensures.1 c.in_err-check_clauses.ensures
-
-pub check_table-requires-clause-distinct : goal.check_table-requires-clause-distinct
-check_table-requires-clause-distinct c = names_distinct (grammar_view c.args.grammar.now) (map rule_seen c.args.rules.now) c.requires.seen c.requires.distinct
-
-pub check_table-requires-clause-numbered : goal.check_table-requires-clause-numbered
-check_table-requires-clause-numbered c = c.in_ok-types.ensures.numbered
-
-pub returns-in_err-check_table-clause-refuses : goal.returns-in_err-check_table-clause-refuses
-returns-in_err-check_table-clause-refuses c =
-    table_refused (grammar_view c.args.grammar.now) (numbered_table c.in_ok-types.types) c.in_ok-types.ensures.filled (grammar_view c.args.grammar.now).type_parameters refl c.args.rules.now c.requires.seen c.in_ok-check_clauses.ensures
-    _ _ c.from_residual-in_err-check_table.ensures.1 (c.in_err-check_table.ensures (grammar_view c.args.grammar.now).type_parameters)
-
-pub returns-clause-refuses : goal.returns-clause-refuses
-returns-clause-refuses c =
-    none_refused (grammar_view c.args.grammar.now) (numbered_table c.in_ok-types.types) c.in_ok-types.ensures.filled (grammar_view c.args.grammar.now).type_parameters refl c.args.rules.now c.requires.seen c.in_ok-check_clauses.ensures
-    (c.in_ok-check_table.ensures (grammar_view c.args.grammar.now).type_parameters)
 
 pub by_name-requires-clause-numbers : goal.by_name-requires-clause-numbers
 by_name-requires-clause-numbers c =
@@ -45,9 +25,11 @@ by_name-requires-clause-tokens c = c.in_ok-types.ensures.numbered.tokens
 
 pub returns-clause-inferred : goal.returns-clause-inferred
 returns-clause-inferred c =
+    let g = grammar_view c.args.grammar.now in
     let listed = c.in_ok-listed.ensures in
-    none_inferred (grammar_view c.args.grammar.now) (numbered_table c.in_ok-types.types) c.in_ok-types.ensures.filled (grammar_view c.args.grammar.now).type_parameters refl c.args.rules.now c.requires.seen c.in_ok-check_clauses.ensures
-    (type_table c.in_ok-listed.listed.0) listed.same listed.rest listed.names_in_order listed.terminals_in_order c.requires.distinct (c.in_ok-check_table.ensures (grammar_view c.args.grammar.now).type_parameters)
+    let types = type_table c.in_ok-listed.listed.0 in
+    filled_inferred g types (filled_same g (numbered_table c.in_ok-types.types) types c.in_ok-types.ensures.filled listed.same listed.rest) listed.names_in_order listed.terminals_in_order
+    c.requires.distinct c.in_ok-types.ensures.refuses
 
 pub returns-clause-names : goal.returns-clause-names
 returns-clause-names c =

@@ -1,7 +1,7 @@
 use Rattle.std.proofs.Common.{arith, refl}
 use borrow.Author.Count.{falls}
 use Rattle.lalrpop_norm_faults.proofs.FaultLemmas.{exit_at}
-use Rattle.lalrpop_norm_tree_parts.specs.Reprs.{repr_view, reprs_view}
+use Rattle.lalrpop_norm_shared_types.specs.Shared.{shared_view, shared_all}
 use Rattle.lalrpop_norm_tree.specs.Symbols.{argument_patterns_view}
 use Rattle.lalrpop_norm_tyinfer_steps.proofs.MisfitLemmas.{over_types, over_no_tuple, tuple_is, as_many_is, not_as_many, next_misfits}
 use Rattle.lalrpop_norm_tyinfer_steps.proofs.TupleSizes.{to_tuple, to_parts, to_one, next_rank}
@@ -24,10 +24,10 @@ pub check_names-returns : goal.check_names-returns
 check_names-returns t c = rw (tuple_is c.args.tuple.now) (rw c.deref.ensures.value at c.check_tuple.ensures)
 
 pub check_tuple-returns-in-Some : goal.check_tuple-returns-in-Some
-check_tuple-returns-in-Some t c = over_types _ _ (repr_view c.args.ty.now) (reprs_view c.in-Some.types.now) _ c.in-Some.ensures c.check_parts.ensures
+check_tuple-returns-in-Some t c = over_types _ _ (shared_view c.args.ty.now) (shared_all c.in-Some.types.now) _ c.in-Some.ensures c.check_parts.ensures
 
 pub check_tuple-returns-in-None : goal.check_tuple-returns-in-None
-check_tuple-returns-in-None t c = rw (over_no_tuple c.args.span (argument_patterns_view c.args.patterns.now) (repr_view c.args.ty.now) c.in-None.ensures) c.refusal.ensures.first
+check_tuple-returns-in-None t c = rw (over_no_tuple c.args.span (argument_patterns_view c.args.patterns.now) (shared_view c.args.ty.now) c.in-None.ensures) c.refusal.ensures.first
 
 pub check_each-check_pattern-requires : goal.check_each-check_pattern-requires
 check_each-check_pattern-requires t c = (to_one t _ _ _ c.loop-i-test.true c.index-patterns-i.is c.decreases, tt)

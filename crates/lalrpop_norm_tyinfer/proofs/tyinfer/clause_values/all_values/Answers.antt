@@ -8,7 +8,7 @@ use Rattle.lalrpop_norm_tyinfer_steps.proofs.ValueLemmas.{next_value, last_value
 use Rattle.std.specs.Prelude.{option_map}
 use Rattle.std.proofs.lemmas.Result.{IfOk-from_err}
 use borrow.Author.Count.{falls}
-use Rattle.lalrpop_norm_tree_parts.specs.Reprs.{repr_view}
+use Rattle.lalrpop_norm_shared_types.specs.Shared.{shared_view}
 use Rattle.lalrpop_norm_tyinfer.proofs.Loops.{lacks_value}
 use Rattle.lalrpop_norm_tyinfer.proofs.tyinfer.clause_values.all_values.Goals as goal
 
@@ -29,7 +29,7 @@ returns c =
 pub loop-source-init : goal.loop-source-init
 loop-source-init c =
     let all = kinds_in (numbered_table c.args.types.now) (map (λ (t : ℕ × Bor Symbol). kind_view t.1.now.kind) c.args.sources.now) in
-    ap (λ vs. option_map (before (map repr_view vs)) all) c.in_ok-values.ensures.items ∙ before_nothing all
+    ap (λ vs. option_map (before (map shared_view vs)) all) c.in_ok-values.ensures.items ∙ before_nothing all
 
 pub loop-source-smaller : goal.loop-source-smaller
 loop-source-smaller c = falls _ _ c.loop-source-test.true
@@ -38,7 +38,7 @@ pub returns-in-None : goal.returns-in-None
 returns-in-None c =
     let tt = numbered_table c.args.types.now in
     lacks_value (λ (ts : List (ℕ × Bor Symbol)). kinds_in tt (map (λ (t : ℕ × Bor Symbol). kind_view t.1.now.kind) ts)) (λ (t : ℕ × Bor Symbol). kind_in tt (kind_view t.1.now.kind)) (λ t ts. refl)
-    c.args.sources.now c.loop-source.source-index c.source-item.result (map repr_view c.loop-source.values.items) _ c.loop-source-test.true c.source-item.is (rw c.in-None.is at c.in_ok-ty.ensures) c.loop-source.invariant
+    c.args.sources.now c.loop-source.source-index c.source-item.result (map shared_view c.loop-source.values.items) _ c.loop-source-test.true c.source-item.is (rw c.in-None.is at c.in_ok-ty.ensures) c.loop-source.invariant
 
 pub returns-in_err-values : goal.returns-in_err-values
 returns-in_err-values c = IfOk-from_err _ _ c.from_residual.ensures.0

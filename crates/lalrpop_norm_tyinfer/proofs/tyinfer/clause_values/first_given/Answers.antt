@@ -1,4 +1,4 @@
-use Rattle.lalrpop_norm_tree_parts.specs.Reprs.{repr_view}
+use Rattle.lalrpop_norm_shared_types.specs.Shared.{shared_view}
 use Rattle.lalrpop_norm_tyinfer_steps.specs.Numbered.{numbered_table}
 use borrow.Author.Count.{falls}
 use Rattle.lalrpop_norm_tyinfer.proofs.Loops.{none_first, next_first, found_first}
@@ -18,4 +18,4 @@ returns c = λ ps. none_first ps (numbered_table c.args.types.now) c.args.clause
 pub returns-in-Some : goal.returns-in-Some
 returns-in-Some c =
     λ ps. found_first ps (numbered_table c.args.types.now) c.args.clauses.now c.loop-clause.clause-index c.clause-item.result _ c.loop-clause-test.true c.clause-item.is (c.loop-clause.invariant ps)
-    (repr_view c.in-Some.ty) (rw c.in-Some.is at (c.in_ok-ty.ensures ps))
+    (shared_view c.in-Some.ty) (rw c.in-Some.is at (c.in_ok-ty.ensures ps))

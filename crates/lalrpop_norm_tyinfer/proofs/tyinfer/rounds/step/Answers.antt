@@ -1,6 +1,6 @@
 use Rattle.std.proofs.Common.{◌≡◌, None, sym, ◌∙◌}
 use Rattle.std.proofs.lemmas.Result.{IfOk-from_err}
-use Rattle.lalrpop_norm_tree_parts.specs.Reprs.{repr_view}
+use Rattle.lalrpop_norm_shared_types.specs.Shared.{shared_view}
 use Rattle.lalrpop_norm_tyinfer_steps.specs.Numbered.{numbered_table}
 use Rattle.lalrpop_norm_tyinfer_steps.specs.TableValues.{type_by_name}
 use Rattle.lalrpop_norm_tyinfer_steps.specs.Visits.{rule_seen}
@@ -35,13 +35,13 @@ returns-in-Some-clause-visits c =
     let tt = numbered_table c.args.types.now in
     let name = c.args.rule.now.data.now.name.0 in
     let untyped : type_by_name tt name ≡ None = not_some (type_by_name tt name) (sym c.requires.told ∙ (sym c.is_typed.ensures ∙ c.if-is_typed.false)) in
-    let takes = put_taken c.args.types.now c.put.new.self name c.args.place (repr_view c.in-Some.ty) c.requires.number c.put.ensures _ untyped (rw c.in-Some.is at c.in_ok-ty.ensures) in
+    let takes = put_taken c.args.types.now c.put.new.self name c.args.place (shared_view c.in-Some.ty) c.requires.number c.put.ensures _ untyped (rw c.in-Some.is at c.in_ok-ty.ensures) in
     if_ok c.give_type.result c.give_type.ensures
     (λ ready g. steps_taken c.args.inference.now.parameters.now tt (numbered_table c.put.new.self) (rule_seen c.args.rule.now) c.args.place c.args.stops.now c.give_type.new.self ready.items takes g)
 
 pub returns-in-Some-clause-numbers : goal.returns-in-Some-clause-numbers
 returns-in-Some-clause-numbers c =
-    let same = put_same c.args.types.now c.put.new.self c.args.rule.now.data.now.name.0 c.args.place (repr_view c.in-Some.ty) c.requires.number c.put.ensures in
+    let same = put_same c.args.types.now c.put.new.self c.args.rule.now.data.now.name.0 c.args.place (shared_view c.in-Some.ty) c.requires.number c.put.ensures in
     if_ok c.give_type.result c.give_type.ensures (λ ready g. same)
 
 pub returns-in-None-clause-visits : goal.returns-in-None-clause-visits

@@ -1,0 +1,3 @@
+pub mod SharedSeen
+pub mod SharedTexts
+pub mod MadeRows
