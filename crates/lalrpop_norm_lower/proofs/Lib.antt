@@ -20,3 +20,5 @@ pub mod MadeLemmas
 pub mod RowLemmas
 pub mod PlacedRows
 pub mod NumberLemmas
+pub mod StartLemmas
+pub mod RuleLemmas

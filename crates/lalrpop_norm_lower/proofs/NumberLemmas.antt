@@ -10,7 +10,7 @@ use mathlib.Core.HLevel.{hedberg}
 use mathlib.Core.Logic.{∥∥₁_elim}
 use Rattle.lalrpop_norm_tree_names.specs.declared.names.NonterminalString.{NonterminalString}
 use Rattle.lalrpop_norm_tree_parts.specs.Reprs.{ReprData}
-use Rattle.lalrpop_norm_tree.specs.Items.{ItemData, RuleData, rule_item}
+use Rattle.lalrpop_norm_tree.specs.Items.{RuleData}
 use Rattle.lalrpop_norm_theory.specs.Rounds.{In, IsDistinct}
 use Rattle.lalrpop_norm_theory.proofs.OrderLemmas.{in_at}
 use Rattle.lalrpop_norm_names.specs.Numbers.{number_in_table, IsNumbering}
@@ -18,11 +18,9 @@ use Rattle.lalrpop_norm_names.specs.declared.table.Names.{Names}
 use Rattle.lalrpop_norm_model.specs.SameTypes.{same_type}
 use Rattle.lalrpop_norm_model.proofs.SameTypeLemmas.{type_sound, type_same}
 use Rattle.lalrpop_norm_repr.specs.Tables.{TypeTable, type_of}
-use Rattle.lalrpop_norm_lower.specs.Lowering.{rules_among}
 use Rattle.lalrpop_norm_lower.specs.Numbered.{AreTypesByNumber}
 use Rattle.lalrpop_norm_lower.specs.State.{table_by_number, types_by_number, IsTypeAt, AreTypesFrom}
 use Rattle.lalrpop_norm_lower.specs.declared.numbered.NumberedTypes.{NumberedTypes}
-use Rattle.lalrpop_norm_lower.proofs.LoopLemmas.{rule_first}
 
 -- ---- what it answers
 
@@ -96,14 +94,14 @@ first_left xs ys k y is =
     let first : get_or xs k y ≡ y = cc cut in
     (slice_get-get_or xs k y within ∙ ap Some first, cc cut)
 
-module _ (types : NumberedTypes) (k : ℕ) (items rest : List ItemData) (i : ItemData) (r : RuleData) (from : AreTypesFrom types k (rules_among items)) (is : items ≡ i ∷ rest) (rule : i ≡ rule_item r) where
-  type_here : IsTypeAt types k r.name × AreTypesFrom types (k + 1) (rules_among rest)
+module _ (types : NumberedTypes) (k : ℕ) (rules rest : List RuleData) (r : RuleData) (from : AreTypesFrom types k rules) (is : rules ≡ r ∷ rest) where
+  type_here : IsTypeAt types k r.name × AreTypesFrom types (k + 1) rest
   type_here =
       let typed : RuleData → Option ReprData = λ q. type_of q.name (table_by_number types) in
-      first_left (types_by_number types) (map typed (rules_among rest)) k (typed r) (from ∙ ap (λ xs. map typed (rules_among xs)) is ∙ ap (map typed) (rule_first i r rest rule))
+      first_left (types_by_number types) (map typed rest) k (typed r) (from ∙ ap (map typed) is)
 
   pub type_of_next : IsTypeAt types k r.name
   type_of_next = type_here.0
 
-  pub types_behind : AreTypesFrom types (k + 1) (rules_among rest)
+  pub types_behind : AreTypesFrom types (k + 1) rest
   types_behind = type_here.1

@@ -13,4 +13,7 @@ pub mod Made
 pub mod Active
 pub mod CarriedOver
 pub mod LoweredRules
+pub mod RulesOf
 pub mod Sourced
+pub mod ActionContexts
+pub mod RulesWithActions

@@ -122,10 +122,14 @@ made_terminals fs g =
 
 -- ---- the whole
 
+-- these actions are those of start symbols, then those of the alternatives in item order
+abbrev pub HasActions : GrammarData → TypeTable → List ActionData → Type 0
+HasActions g types actions = actions ≡ made_starts g.prefix types (public_rules_in (rules_among g.items))
+    ++ made_actions g.prefix types (rules_among g.items)
+
 -- what lowering makes of the grammar, where `types` is the table of its rules
 pub record IsMade (fs : Features) (g : GrammarData) (types : TypeTable) (l : LoweredGrammar) : Type 0 where
-  pub actions : l.actions ≡ made_starts g.prefix types (public_rules_in (rules_among g.items))
-      ++ made_actions g.prefix types (rules_among g.items)
+  pub actions : HasActions g types l.actions
   pub nonterminals : l.nonterminals
       ≡ sorted_onto (sorted_onto [] (start_rows g.prefix 0 (public_rules_in (rules_among g.items))))
       (rule_rows (length (public_rules_in (rules_among g.items))) (rules_among g.items))

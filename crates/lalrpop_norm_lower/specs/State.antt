@@ -1,16 +1,14 @@
--- What rules are lowered by, what was made of them so far, and the types of rules by their numbers.
+-- What was made of rules so far, and the types of rules by their numbers.
 use Rattle.std.specs.Prelude.{◌≡◌, ℕ, List, Option, Some, drop, map, option_map, slice_get}
 use Rattle.lalrpop_norm_tree_names.specs.declared.names.NonterminalString.{NonterminalString}
 use Rattle.lalrpop_norm_tree_parts.specs.Reprs.{ReprData, repr_view}
 use Rattle.lalrpop_norm_tree.specs.declared.items.GrammarItem.{GrammarItem}
-use Rattle.lalrpop_norm_tree.specs.Items.{AlternativeData, RuleData, item_view}
-use Rattle.lalrpop_norm_repr.specs.Actions.{ActionData, action_defn_view}
+use Rattle.lalrpop_norm_tree.specs.Items.{RuleData, item_view}
 use Rattle.lalrpop_norm_repr.specs.Productions.{nonterminal_data_view}
 use Rattle.lalrpop_norm_repr.specs.Tables.{TypeTable, type_table, type_of, rows}
 use Rattle.lalrpop_norm_lower.specs.declared.numbered.NumberedTypes.{NumberedTypes}
-use Rattle.lalrpop_norm_lower.specs.declared.state.LowerState.{LowerState}
+use Rattle.lalrpop_norm_lower.specs.declared.state.RuleState.{RuleState}
 use Rattle.lalrpop_norm_lower.specs.Lowering.{EntryRow, rules_among}
-use Rattle.lalrpop_norm_lower.specs.Made.{made_action}
 
 abbrev pub table_by_number : NumberedTypes → TypeTable
 table_by_number types = type_table types.table.now
@@ -26,21 +24,9 @@ IsTypeAt types k name = slice_get (types_by_number types) k ≡ Some (type_of na
 abbrev pub AreTypesFrom : NumberedTypes → ℕ → List RuleData → Type 0
 AreTypesFrom types k rs = drop k (types_by_number types) ≡ map (λ r. type_of r.name (table_by_number types)) rs
 
--- the table of types that a state lowers by
-abbrev pub state_types : LowerState → TypeTable
-state_types state = table_by_number state.types.now
-
--- the actions made so far, by their numbers
-abbrev pub state_actions : LowerState → List ActionData
-state_actions state = map action_defn_view state.actions.items
-
 -- the nonterminals made so far, by their names
-abbrev pub state_nonterminals : LowerState → List EntryRow
+abbrev pub state_nonterminals : RuleState → List EntryRow
 state_nonterminals state = rows nonterminal_data_view state.nonterminals
-
--- the action of an alternative of a rule of that type
-abbrev pub action_for : LowerState → ReprData → AlternativeData → ActionData
-action_for state = made_action state.prefix.now (state_types state)
 
 -- the rules among items
 abbrev pub rules_in : List GrammarItem → List RuleData

@@ -101,6 +101,7 @@ pub(crate) fn put_source_names(
     ensures { OnOk result (names.new.items ≡ source_names prefix.now (parts_view symbols.now)) }
 {
     names.clear();
+    names.reserve(symbols.len())?;
     for symbol in symbols {
         let source = sources.contain(symbol);
         add_name(alloc, prefix, source, symbol, names)?;

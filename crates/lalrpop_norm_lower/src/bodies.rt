@@ -5,35 +5,32 @@ ghost use Rattle.lalrpop_norm_tree_parts.specs.Reprs.{repr_view};
 ghost use Rattle.lalrpop_norm_tree.specs.Symbols.{expr_view};
 ghost use Rattle.lalrpop_norm_model.specs.LoweringFaults.{code_faults};
 ghost use Rattle.lalrpop_norm_repr.specs.Actions.{action_defn_view, action_kind_view};
-ghost use Rattle.lalrpop_norm_lower.specs.Lowering.{lowered_symbols};
+ghost use Rattle.lalrpop_norm_lower.specs.ActionContexts.{context_types, action_by};
 ghost use Rattle.lalrpop_norm_lower.specs.Made.{made_code, body, user_body};
 ghost use Rattle.lalrpop_norm_lower.specs.Sourced.{AreSourcesOf};
-ghost use Rattle.lalrpop_norm_lower.specs.State.{state_types, action_for};
 
+use crate::action_context::ActionContext;
 use crate::actions::symbol_types;
 use crate::arguments::{Sources, argument_patterns, put_source_names};
-use crate::state::LowerState;
 use lalrpop_norm_lower_steps::code::{is_fallible, written_code};
 use lalrpop_norm_lower_steps::placeholders::{filled, has_slot};
 use lalrpop_norm_repr::grammar::repr::{
-    ActionFnDefn, ActionFnDefnKind, LookaroundActionFnDefn, Symbol, TypeRepr, UserActionFnDefn,
+    ActionFnDefn, ActionFnDefnKind, LookaroundActionFnDefn, TypeRepr, UserActionFnDefn,
 };
 use lalrpop_norm_tree::grammar::parse_tree::{ActionKind, Alternative, Atom, NoMemory};
 
 /// The action of an alternative of a rule of that type. The list is room for names.
 pub(crate) fn made_action(
-    state: &LowerState,
+    context: &ActionContext,
     ty: &TypeRepr,
     alternative: &Alternative,
-    symbols: &[Symbol],
     names: &mut Vec<Atom>,
 ) -> Result<ActionFnDefn, NoMemory>
-    requires symbols { symbols.now ≡ lowered_symbols (expr_view alternative.now.expr) }
-    requires counted { code_faults (alternative_view alternative.now) ≡ [] }
+    requires { code_faults (alternative_view alternative.now) ≡ [] }
     ensures { IfOk result (λ d.
-        action_defn_view d ≡ action_for state.now (repr_view ty.now) (alternative_view alternative.now)) }
+        action_defn_view d ≡ action_by context.now (repr_view ty.now) (alternative_view alternative.now)) }
 {
-    let kind = body(state, ty, alternative, symbols, names)?;
+    let kind = body(context, ty, alternative, names)?;
     let ret_type = ty.clone()?;
     let fallible = is_fallible(&alternative.action);
     Ok(ActionFnDefn {
@@ -44,16 +41,14 @@ pub(crate) fn made_action(
 }
 
 fn body(
-    state: &LowerState,
+    context: &ActionContext,
     ty: &TypeRepr,
     alternative: &Alternative,
-    symbols: &[Symbol],
     names: &mut Vec<Atom>,
 ) -> Result<ActionFnDefnKind, NoMemory>
-    requires symbols { symbols.now ≡ lowered_symbols (expr_view alternative.now.expr) }
-    requires counted { code_faults (alternative_view alternative.now) ≡ [] }
+    requires { code_faults (alternative_view alternative.now) ≡ [] }
     ensures { IfOk result (λ k. action_kind_view k
-        ≡ body state.now.prefix.now (state_types state.now) (repr_view ty.now) (alternative_view alternative.now)
+        ≡ body context.now.prefix.now (context_types context.now) (repr_view ty.now) (alternative_view alternative.now)
         (option_map action_view alternative.now.action)) }
 {
     match &alternative.action {
@@ -63,30 +58,28 @@ fn body(
         Some(ActionKind::Lookbehind) => Ok(ActionFnDefnKind::Lookaround(
             LookaroundActionFnDefn::Lookbehind,
         )),
-        Some(ActionKind::User(_)) => user_body(state, ty, alternative, symbols, names),
-        Some(ActionKind::Fallible(_)) => user_body(state, ty, alternative, symbols, names),
-        None => user_body(state, ty, alternative, symbols, names),
+        Some(ActionKind::User(_)) => user_body(context, ty, alternative, names),
+        Some(ActionKind::Fallible(_)) => user_body(context, ty, alternative, names),
+        None => user_body(context, ty, alternative, names),
     }
 }
 
 /// Action code over one argument for each symbol.
 fn user_body(
-    state: &LowerState,
+    context: &ActionContext,
     ty: &TypeRepr,
     alternative: &Alternative,
-    symbols: &[Symbol],
     names: &mut Vec<Atom>,
 ) -> Result<ActionFnDefnKind, NoMemory>
-    requires symbols { symbols.now ≡ lowered_symbols (expr_view alternative.now.expr) }
-    requires counted { code_faults (alternative_view alternative.now) ≡ [] }
-    ensures { IfOk result (λ k.
-        action_kind_view k ≡ user_body state.now.prefix.now (state_types state.now) (repr_view ty.now) (alternative_view alternative.now)) }
+    requires { code_faults (alternative_view alternative.now) ≡ [] }
+    ensures { IfOk result (λ k. action_kind_view k
+        ≡ user_body context.now.prefix.now (context_types context.now) (repr_view ty.now) (alternative_view alternative.now)) }
 {
     let expr = &alternative.expr;
     let sources = Sources::among(&expr.symbols);
-    let arg_patterns = argument_patterns(state.alloc, state.prefix, sources, &expr.symbols)?;
-    let arg_types = symbol_types(state.alloc, state.types, symbols)?;
-    let code = code_of(state, ty, sources, alternative, names)?;
+    let arg_patterns = argument_patterns(context.alloc, context.prefix, sources, &expr.symbols)?;
+    let arg_types = symbol_types(context.alloc, context.types, &expr.symbols)?;
+    let code = code_of(context, ty, sources, alternative, names)?;
     Ok(ActionFnDefnKind::User(UserActionFnDefn {
         arg_patterns,
         arg_types,
@@ -96,7 +89,7 @@ fn user_body(
 
 /// The action code of an alternative with these sources. Their names are put together only where one of them may occur in it.
 fn code_of(
-    state: &LowerState,
+    context: &ActionContext,
     ty: &TypeRepr,
     sources: Sources,
     alternative: &Alternative,
@@ -105,14 +98,14 @@ fn code_of(
     requires sources { AreSourcesOf (expr_view alternative.now.expr) sources }
     requires counted { code_faults (alternative_view alternative.now) ≡ [] }
     ensures { IfOk result (λ s.
-        string_bytes s ≡ made_code state.now.prefix.now (repr_view ty.now) (alternative_view alternative.now)) }
+        string_bytes s ≡ made_code context.now.prefix.now (repr_view ty.now) (alternative_view alternative.now)) }
 {
     let nameless = written_code(ty, &[], &alternative.action);
     if !has_slot(nameless) {
-        return Ok(String::from_str(state.alloc, nameless)?);
+        return Ok(String::from_str(context.alloc, nameless)?);
     }
     let symbols = &alternative.expr.symbols;
-    put_source_names(state.alloc, state.prefix, sources, symbols, names)?;
+    put_source_names(context.alloc, context.prefix, sources, symbols, names)?;
     let written = written_code(ty, names, &alternative.action);
-    filled(state.alloc, sources.some_named, names, written)
+    filled(context.alloc, sources.some_named, names, written)
 }

@@ -1,4 +1,4 @@
-//! The entry of the pass: an expanded grammar is lowered to one `LoweredGrammar`.
+//! The entries of the pass: an expanded grammar is lowered to one `LoweredGrammar`, or to what it has of rules.
 ghost use Rattle.std.specs.Prelude.{◌≡◌, IfOk, map, true};
 ghost use Rattle.lalrpop_norm_faults.specs.Faults.{Refuses};
 ghost use Rattle.lalrpop_norm_theory.specs.Rounds.{IsDistinct};
@@ -12,23 +12,30 @@ ghost use Rattle.lalrpop_norm_model.specs.LoweringFaults.{lowering_faults};
 ghost use Rattle.lalrpop_norm_model.specs.PlainRules.{all_rules};
 ghost use Rattle.lalrpop_norm_repr.specs.Lowered as lowered;
 ghost use Rattle.lalrpop_norm_repr.specs.Closed.{IsClosed};
-ghost use Rattle.lalrpop_norm_repr.specs.Tables.{type_table};
+ghost use Rattle.lalrpop_norm_repr.specs.Actions.{action_defn_view};
+ghost use Rattle.lalrpop_norm_repr.specs.Tables.{TypeTable, type_table};
+ghost use Rattle.lalrpop_norm_shared_types.specs.Table.{shared_table};
 ghost use Rattle.lalrpop_norm_lower.specs.Active.{active_grammar};
 ghost use Rattle.lalrpop_norm_lower.specs.CarriedOver.{IsCarriedOver};
-ghost use Rattle.lalrpop_norm_lower.specs.Lowering.{rules_among};
-ghost use Rattle.lalrpop_norm_lower.specs.Made.{types_by_name, made_faults, IsMade};
-ghost use Rattle.lalrpop_norm_lower.specs.LoweredRules.{IsProduced};
+ghost use Rattle.lalrpop_norm_lower.specs.Lowering.{rules_among, public_rules_in};
+ghost use Rattle.lalrpop_norm_lower.specs.Made.{types_by_name, made_faults, HasActions, IsMade};
+ghost use Rattle.lalrpop_norm_lower.specs.LoweredRules.{AreMadeRules, IsProduced};
+ghost use Rattle.lalrpop_norm_lower.specs.RulesOf.{AreRulesWhere};
+ghost use Rattle.lalrpop_norm_lower.specs.RulesWithActions.{AreRulesWithActions};
 ghost use Rattle.lalrpop_norm_lower.specs.Shape.{IsLoweringOf};
+ghost use Rattle.lalrpop_norm_lower.specs.StartTypes.{start_types, AddsTypes};
 
 use crate::carried::{Carried, carried_of};
-use crate::lowered_rules::{Produced, produce};
+use crate::lowered_rules::{LoweredRules, Produced, produce_shared};
 use crate::numbered::numbers_of_rules;
+use crate::rules_with_actions::{RulesWithActions, rules_with_actions};
 use crate::start_types::add_start_types;
 use lalrpop_norm_common::Session;
 use lalrpop_norm_faults::NormResult;
 use lalrpop_norm_lower_steps::terminals::terminal_set;
 use lalrpop_norm_names::Names;
-use lalrpop_norm_repr::grammar::repr::{Grammar, Types};
+use lalrpop_norm_repr::grammar::repr::{ActionFnDefn, Grammar, Types};
+use lalrpop_norm_shared_types::table::SharedTypes;
 use lalrpop_norm_tree::grammar::parse_tree as pt;
 use lalrpop_norm_tree::grammar::parse_tree::NoMemory;
 use std::alloc::Global;
@@ -86,8 +93,8 @@ pub fn lower_numbered<L>(
 }
 
 /// The lowered grammar, with its contract in terms of what the rules produce.
-// `lower_over`, `lower_rest` and `lowered_of` are apart for drops: what a function owns ends at each `?` behind it, and each end
-// is proved.
+// `lower_over`, `lower_rest`, `lowered_with` and `lowered_of` are apart for drops: what a function owns ends at each `?` behind it,
+// and each end is proved.
 fn lower_over<L>(
     alloc: Global,
     session: &Session<L>,
@@ -104,16 +111,16 @@ fn lower_over<L>(
         (lowered.lowered_grammar_view l)) }
 {
     let carried = carried_of(alloc, session, &grammar)?;
-    lower_rest(alloc, grammar, types, names, carried)
+    lower_rest(alloc, grammar, types, carried, names)
 }
 
-/// The lowered grammar, where all else than what the rules produce is there already.
+/// The lowered grammar, where all else than what is made of the rules is there already.
 fn lower_rest(
     alloc: Global,
     mut grammar: pt::Grammar,
     types: Types,
-    names: Names,
     carried: Carried,
+    names: Names,
 ) -> NormResult<Grammar>
     requires distinct { IsDistinct (map (λ r. r.name.0) (rules_among (written.grammar_view grammar).items)) }
     requires numbering { IsNumbering (map (λ r. r.name.0) (rules_among (written.grammar_view grammar).items)) names }
@@ -123,24 +130,41 @@ fn lower_rest(
         → IsMade fs (written.grammar_view grammar) (type_table types) (lowered.lowered_grammar_view l)) }
 {
     let items = mem::replace(&mut grammar.items, Vec::new(alloc));
-    let produced = produce(alloc, grammar.prefix.as_str(), items, &types, names)?;
-    Ok(lowered_of(alloc, types, carried, produced)?)
+    let made = rules_with_actions(alloc, grammar.prefix.as_str(), &types, items, names)?;
+    Ok(lowered_with(alloc, types, carried, made)?)
 }
 
-/// The lowered grammar of its parts.
-fn lowered_of(
+/// The lowered grammar of its parts, where `types` has no start symbols yet.
+fn lowered_with(
     alloc: Global,
     mut types: Types,
     carried: Carried,
-    produced: Produced,
+    made: RulesWithActions,
 ) -> Result<Grammar, NoMemory>
     ensures { IfOk result (λ l. (fs : Features) (g : GrammarData) → IsCarriedOver fs g carried
-        → IsProduced g.prefix (type_table types) (rules_among g.items) produced
+        → AreRulesWithActions g.prefix (type_table types) (rules_among g.items) made
         → IsMade fs g (type_table types) (lowered.lowered_grammar_view l)) }
+{
+    add_start_types(&mut types, made.start_types)?;
+    lowered_of(alloc, types, carried, made.actions, made.produced)
+}
+
+/// The lowered grammar of its parts, where `types` has the start symbols.
+fn lowered_of(
+    alloc: Global,
+    types: Types,
+    carried: Carried,
+    actions: Vec<ActionFnDefn>,
+    produced: Produced,
+) -> Result<Grammar, NoMemory>
+    ensures { IfOk result (λ l. (fs : Features) (g : GrammarData) (before : TypeTable) → IsCarriedOver fs g carried
+        → HasActions g before (map action_defn_view actions.items)
+        → IsProduced g.prefix (rules_among g.items) produced
+        → AddsTypes before (type_table types) (start_types g.prefix before (public_rules_in (rules_among g.items)))
+        → IsMade fs g before (lowered.lowered_grammar_view l)) }
 {
     let tokens = carried.tokens;
     let terminals = terminal_set(alloc, tokens.all, produced.recovers)?;
-    add_start_types(&mut types, produced.starts)?;
     // A law, which does nothing: it gives the order of the rows.
     types.rows_ascend();
     let head = carried.head;
@@ -155,11 +179,51 @@ fn lowered_of(
         parameters: signature.parameters,
         where_clauses: signature.where_clauses,
         intern_token: head.intern_token,
-        action_fn_defns: produced.actions,
+        action_fn_defns: actions,
         terminals,
         nonterminals: produced.nonterminals,
         conversions: tokens.patterns,
         types,
         module_attributes: head.module_attributes,
+    })
+}
+
+/// As [`lower`], but for all else than the nonterminals with their productions, the start symbols, and the types: they are made
+/// without their actions, over types that share their parts.
+///
+/// Errors: those of [`lower`].
+pub fn lower_rules(
+    alloc: Global,
+    grammar: pt::Grammar,
+    types: SharedTypes,
+) -> NormResult<LoweredRules>
+    requires { IsExpanded (written.grammar_view grammar) }
+    ensures refuses { Refuses result (lowering_faults (written.grammar_view grammar) (types_by_name (shared_table types))) }
+    ensures lowered { (fs : Features) → IsTyped fs (written.grammar_view grammar) (types_by_name (shared_table types))
+        → IfOk result (AreRulesWhere (λ l. IsLoweringOf (active_grammar fs (written.grammar_view grammar))
+        (all_rules (written.grammar_view grammar)) (shared_table types) l × IsClosed l)) }
+{
+    rules_over(alloc, grammar, types)
+}
+
+/// Those parts of the lowered grammar, with their contract in terms of what the rules produce.
+fn rules_over(
+    alloc: Global,
+    mut grammar: pt::Grammar,
+    mut types: SharedTypes,
+) -> NormResult<LoweredRules>
+    ensures refuses { Refuses result
+        (made_faults (written.grammar_view grammar).prefix (shared_table types) (rules_among (written.grammar_view grammar).items)) }
+    ensures made { IfOk result (AreMadeRules (written.grammar_view grammar).prefix (shared_table types)
+        (rules_among (written.grammar_view grammar).items)) }
+{
+    let items = mem::replace(&mut grammar.items, Vec::new(alloc));
+    let produced = produce_shared(alloc, grammar.prefix.as_str(), &mut types, items)?;
+    // A law, which does nothing: it gives the order of the rows.
+    types.rows_ascend();
+    Ok(LoweredRules {
+        start_nonterminals: produced.start_nonterminals,
+        nonterminals: produced.nonterminals,
+        types,
     })
 }

@@ -1,6 +1,8 @@
 //! Lowering: from rules of the expanded grammar to numbered productions, action functions and types.
 #![tactic(auto)]
 
+mod action_context;
+mod action_lists;
 mod actions;
 mod alternatives;
 mod arguments;
@@ -16,10 +18,13 @@ mod patterns;
 mod placeholders;
 mod recovery;
 mod rules;
+mod rules_with_actions;
+mod shared_start_types;
 mod start_types;
 mod starts;
 mod state;
 mod symbols;
 mod tokens;
 
-pub use grammars::{lower, lower_numbered};
+pub use grammars::{lower, lower_numbered, lower_rules};
+pub use lowered_rules::LoweredRules;

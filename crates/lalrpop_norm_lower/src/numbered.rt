@@ -62,14 +62,6 @@ impl<'t> NumberedTypes<'t> {
     {
         self.by_number[number]
     }
-
-    /// Whether the rule of that number has the unit type: for a hint, of which no contract clause speaks.
-    pub(crate) fn is_unit(&self, number: usize) -> bool {
-        match self.by_number.get(number) {
-            Some(Some(ty)) => ty.is_unit(),
-            Some(None) | None => false,
-        }
-    }
 }
 
 /// The numbers of the names of the rules among the items: each has the first index among them at which it occurs.

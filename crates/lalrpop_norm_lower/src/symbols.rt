@@ -26,7 +26,7 @@ pub(crate) fn lowered_symbols(
 }
 
 /// What a symbol is in a production, by what it is under wrappers.
-fn lowered_symbol(alloc: Global, symbol: &pt::Symbol) -> Result<Symbol, NoMemory>
+pub(crate) fn lowered_symbol(alloc: Global, symbol: &pt::Symbol) -> Result<Symbol, NoMemory>
     ensures { IfOk result (λ s. s ≡ lowered_symbol (symbol_view symbol.now)) }
 {
     let kind = &symbol.unwrapped().kind;

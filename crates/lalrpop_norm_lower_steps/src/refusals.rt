@@ -1,16 +1,13 @@
 //! What lowering rejects, one by one.
-ghost use Rattle.std.specs.Prelude.{◌≡◌, [], ◌∷◌, IfOk, length, map};
-ghost use Rattle.lalrpop_norm_faults.specs.Faults.{IsFirst, Refuses};
-ghost use Rattle.lalrpop_norm_faults.specs.declared.kind.FaultKind.TheVariants.{TooManyActions};
-ghost use Rattle.lalrpop_norm_tree.specs.Items.{rule_view};
+ghost use Rattle.std.specs.Prelude.{◌≡◌, ◌<◌, [], ◌∷◌, IfOk, OnOk, map};
+ghost use Rattle.lalrpop_norm_faults.specs.Faults.{fault_if, IsFirst, Refuses};
+ghost use Rattle.lalrpop_norm_faults.specs.declared.kind.FaultKind.TheVariants.{StartTaken, TooManyActions};
 ghost use Rattle.lalrpop_norm_tree.specs.Symbols.{symbol_view};
-ghost use Rattle.lalrpop_norm_model.specs.LoweringFaults.{action_number_faults, span_over, start_faults};
-ghost use Rattle.lalrpop_norm_repr.specs.Tables.{type_table};
+ghost use Rattle.lalrpop_norm_model.specs.LoweringFaults.{action_number_faults, span_over};
 ghost use Rattle.lalrpop_norm_lower_steps.specs.Counts.{count_faults, end_of};
-ghost use Rattle.lalrpop_norm_lower_steps.specs.StartSymbols.{start_name, types_by_name};
 
 use lalrpop_norm_faults::{FaultKind, NormFailure, NormResult, refusal};
-use lalrpop_norm_repr::grammar::repr::{ActionFn, ActionFnDefn, Types};
+use lalrpop_norm_repr::grammar::repr::ActionFn;
 use lalrpop_norm_tree::grammar::parse_tree::{NonterminalData, NonterminalString, Span, Symbol};
 use std::alloc::Global;
 
@@ -60,18 +57,16 @@ fn end_of(before: usize, sources: &[(usize, &Symbol)]) -> usize
     end
 }
 
-/// Rejects a public rule the name of whose start symbol has a type already.
+/// Rejects a public rule whose start symbol would have that name, if the name is taken: it has a type already.
 pub fn check_start(
     alloc: Global,
-    prefix: &str,
-    types: &Types,
     rule: &NonterminalData,
     name: &NonterminalString,
+    taken: bool,
 ) -> NormResult<()>
-    requires { name.now ≡ start_name prefix.now rule.now.name }
-    ensures { Refuses result (start_faults prefix.now (types_by_name (type_table types.now)) (rule_view rule.now)) }
+    ensures { Refuses result (fault_if taken (StartTaken, rule.now.span)) }
 {
-    if types.lookup_nonterminal_type(name).is_none() {
+    if !taken {
         return Ok(());
     }
     Err(refusal(
@@ -83,16 +78,16 @@ pub fn check_start(
     ))
 }
 
-/// The number of the next action: the length of the list.
+/// The number of the next action, where there are `count` of them.
 ///
 /// Errors: F56 (`TooManyActions`) at the given span, where that number would be too great; `Memory`.
-pub fn next_action(alloc: Global, actions: &[ActionFnDefn], span: Span) -> NormResult<ActionFn>
-    ensures refuses { Refuses result (action_number_faults (length actions.now) span) }
-    ensures number { IfOk result (λ a. a ≡ record { 0 = length actions.now }) }
+pub fn next_action(alloc: Global, count: usize, span: Span) -> NormResult<ActionFn>
+    ensures refuses { Refuses result (action_number_faults count span) }
+    ensures number { IfOk result (λ a. a ≡ record { 0 = count }) }
+    ensures within { OnOk result (count < 4294967296) }
 {
-    let number = actions.len();
-    if number < ACTIONS {
-        return Ok(ActionFn::new(number));
+    if count < ACTIONS {
+        return Ok(ActionFn::new(count));
     }
     Err(too_many_actions(alloc, span))
 }

@@ -7,7 +7,7 @@ use Rattle.lalrpop_norm_lower.proofs.arguments.put_source_names.Goals as goal
 
 pub loop-symbol-init : goal.loop-symbol-init
 loop-symbol-init c =
-    ap (λ ns. ns ++ names_from c.args.prefix.now c.args.sources.some_named c.args.sources.some_chosen (length ns) (parts_view c.args.symbols.now)) c.clear.ensures.items
+    ap (λ ns. ns ++ names_from c.args.prefix.now c.args.sources.some_named c.args.sources.some_chosen (length ns) (parts_view c.args.symbols.now)) (c.reserve.ensures.items ∙ c.clear.ensures.items)
     ∙ names_told c.args.prefix.now (parts_view c.args.symbols.now) c.args.sources c.requires
 
 pub loop-symbol-preserved : goal.loop-symbol-preserved

@@ -10,12 +10,12 @@ use Rattle.lalrpop_norm_lower.proofs.bodies.code_of.Goals as goal
 pub returns-then-not-has_slot : goal.returns-then-not-has_slot
 returns-then-not-has_slot c =
     c.in_ok-from_str.ensures.ok
-    ∙ code_nameless c.args.state.now.prefix.now (repr_view c.args.ty.now) (alternative_view c.args.alternative.now) _ c.written_code-nameless.ensures
+    ∙ code_nameless c.args.context.now.prefix.now (repr_view c.args.ty.now) (alternative_view c.args.alternative.now) _ c.written_code-nameless.ensures
     (sym c.has_slot.ensures ∙ c.if-not-has_slot.true)
 
 pub filled-requires : goal.filled-requires
 filled-requires c =
-    let prefix = c.args.state.now.prefix.now in
+    let prefix = c.args.context.now.prefix.now in
     let parts = fold_out-ExprSymbol Kind Parts Call Again Part kind_step expr_step macro_step repeat_step symbol_step c.args.alternative.now.expr in
     enough_at prefix (repr_view c.args.ty.now) c.deref-2.result.now (alternative_view c.args.alternative.now) _ _ _ c.requires.counted c.requires.sources.named
     (c.deref-3.ensures.value ∙ c.in_ok-put_source_names.ensures ∙ ap (λ ss. source_names prefix (parts_view ss)) c.deref.ensures.value ∙ ap (source_names prefix) (sym parts))
