@@ -42,3 +42,4 @@ pub mod AmbiguousRules
 pub mod RootNames
 pub mod TracedLemmas
 pub mod StartExamples
+pub mod RulesLemmas

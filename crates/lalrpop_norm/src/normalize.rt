@@ -1,9 +1,10 @@
 //! The whole way from a written grammar to its lowered one, and the passes that can be used by themselves.
 
-pub use crate::passes::{normalize, normalize_traced};
+pub use crate::passes::{normalize, normalize_rules, normalize_traced};
 pub use lalrpop_norm_common::{Session, norm_util};
 pub use lalrpop_norm_faults::{FaultKind, NormError, NormFailure, NormResult};
 pub use lalrpop_norm_is_expanded::is_expanded;
+pub use lalrpop_norm_lower::LoweredRules;
 pub use lalrpop_norm_macro_expand::macro_expand;
 pub use lalrpop_norm_prevalidate::prevalidate;
 pub use lalrpop_norm_resolve::resolve;

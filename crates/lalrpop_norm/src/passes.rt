@@ -6,8 +6,10 @@ ghost use Rattle.lalrpop_norm_common.specs.Sessions.{features_view};
 ghost use Rattle.lalrpop_norm_repr.specs.Lowered.{lowered_grammar_view};
 ghost use Rattle.lalrpop_norm_repr.specs.Closed.{IsClosed};
 ghost use Rattle.lalrpop_norm_model.specs.Expanded.{IsExpanded};
+ghost use Rattle.lalrpop_norm_model.specs.Features.{Features};
 ghost use Rattle.lalrpop_norm_model.specs.LexerFaults.{StandsAtLexer};
 ghost use Rattle.lalrpop_norm_origins.specs.Origins.{origin_lists};
+ghost use Rattle.lalrpop_norm_lower.specs.RulesOf.{AreRulesWhere};
 ghost use Rattle.lalrpop_norm_explain.specs.TracedGrammars.{grammar_in, grammar_of, is_root, origins_in};
 ghost use Rattle.lalrpop_norm.specs.Normalize.{plain_findings, late_faults};
 ghost use Rattle.lalrpop_norm.specs.Passed.{IsPlain, IsCheckedLowering, IsTypedLowering, IsTypedByInference};
@@ -20,7 +22,7 @@ use lalrpop_norm_common::Session;
 use lalrpop_norm_explain::{Traced, with_origins};
 use lalrpop_norm_faults::NormResult;
 use lalrpop_norm_lexer::lexer::Lexer;
-use lalrpop_norm_lower::lower_numbered;
+use lalrpop_norm_lower::{LoweredRules, lower_numbered, lower_rules};
 use lalrpop_norm_macro_expand::expand_resolved_traced;
 use lalrpop_norm_macro_expand::macro_expand::expand_resolved;
 use lalrpop_norm_precedence::precedence::{expand_precedence, expand_precedence_traced};
@@ -29,7 +31,7 @@ use lalrpop_norm_prevalidate::prevalidate::validate;
 use lalrpop_norm_repr::grammar::repr;
 use lalrpop_norm_token_check::token_check;
 use lalrpop_norm_tree::grammar::parse_tree;
-use lalrpop_norm_tyinfer::tyinfer::infer_types_numbered;
+use lalrpop_norm_tyinfer::tyinfer::{infer_shared_types, infer_types_numbered};
 use std::alloc::Global;
 
 /// Normalizes a written grammar: the lowered grammar with its numbered productions, action functions, terminals and
@@ -52,6 +54,25 @@ pub fn normalize<L: Lexer>(
 {
     let plain = expand(alloc, session, grammar)?;
     check_and_lower(alloc, session, plain)
+}
+
+/// Normalizes as [`normalize`] does, and answers the nonterminals with their numbered productions, the start symbols and the
+/// types alone: no action function is made.
+///
+/// Errors: those of `normalize`.
+pub fn normalize_rules<L: Lexer>(
+    alloc: Global,
+    session: &Session<L>,
+    grammar: parse_tree::Grammar,
+) -> NormResult<LoweredRules>
+    ensures refuses { RefusesAmong (StandsUnder session.now grammar (L.relations session.now.lexer)) result
+        (findings_under session.now grammar) }
+    // They are those of a lowered grammar that `normalize` may answer.
+    ensures rules { IfOk result (AreRulesWhere
+        (λ l. IsClosed l × IsFaithfulUnder session.now grammar (L.relations session.now.lexer) l)) }
+{
+    let plain = expand(alloc, session, grammar)?;
+    check_and_lower_rules(alloc, session, plain)
 }
 
 /// Normalizes as [`normalize`] does, and says where each production comes from: by that [`explain`](lalrpop_norm_explain::explain),
@@ -164,4 +185,32 @@ fn type_and_lower<L>(
     let (types, names) = infer_types_numbered(alloc, &plain)?;
     // From here on each nonterminal has one type (`infer_types_numbered.inferred`; law `inferred_types_are_total`).
     lower_numbered(alloc, session, plain, types, names)
+}
+
+/// As `check_and_lower`, for the nonterminals, the start symbols and the types alone.
+fn check_and_lower_rules<L: Lexer>(
+    alloc: Global,
+    session: &Session<L>,
+    plain: parse_tree::Grammar,
+) -> NormResult<LoweredRules>
+    requires plain { IsPlain (features_view session.now.features) (grammar_view plain) }
+    ensures refuses { RefusesAmong (StandsAtLexer (L.relations session.now.lexer) (grammar_view plain)) result
+        (plain_findings (grammar_view plain)) }
+    ensures lowered { IfOk result (AreRulesWhere (IsCheckedLowering (L.relations session.now.lexer)
+        (features_view session.now.features) (grammar_view plain))) }
+{
+    let entered = token_check::validate(alloc, &session.lexer, plain)?;
+    type_and_lower_rules(alloc, entered)
+}
+
+/// As `type_and_lower`, for the nonterminals, the start symbols and the types alone.
+fn type_and_lower_rules(alloc: Global, plain: parse_tree::Grammar) -> NormResult<LoweredRules>
+    requires { IsExpanded (grammar_view plain) }
+    ensures refuses { Refuses result (late_faults (grammar_view plain)) }
+    // Which conversions are active is nothing to the rules: the features may be any that leave each terminal a type.
+    ensures lowered { (fs : Features) → IsTypedByInference fs (grammar_view plain) →
+        IfOk result (AreRulesWhere (IsTypedLowering fs (grammar_view plain))) }
+{
+    let types = infer_shared_types(alloc, &plain)?;
+    lower_rules(alloc, plain, types)
 }

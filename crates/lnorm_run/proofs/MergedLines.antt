@@ -11,14 +11,13 @@ use Rattle.std.proofs.lemmas.Map.Text.{is_eq-slice_cmp}
 use Rattle.std.proofs.lemmas.Map.Lookups.{exact_bytes}
 use Rattle.std.proofs.lemmas.Slice.Eq.{bytes_eq-Decides}
 use Rattle.lalrpop_norm_tree_names.specs.declared.names.NonterminalString.{NonterminalString}
-use Rattle.lalrpop_norm_tree_parts.specs.Reprs.{ReprData, repr_view}
-use Rattle.lalrpop_norm_tree_parts.specs.declared.lowered.TypeRepr.{TypeRepr}
+use Rattle.lalrpop_norm_tree_parts.specs.Reprs.{ReprData}
 use Rattle.std.proofs.lemmas.Map.Made.{keys_of-map_values}
 use Rattle.lalrpop_norm_repr.specs.Orders.{name_cmp}
 use Rattle.lalrpop_norm_repr.specs.Productions.{EntryData}
-use Rattle.lalrpop_norm_repr.specs.Tables.{TypeTable, found}
+use Rattle.lalrpop_norm_repr.specs.Tables.{found}
 use Rattle.lalrpop_norm_repr.proofs.NameOrder.{names_total, below_is_other, none_above}
-use Rattle.lnorm_run.specs.Lines.{type_line, typed_line}
+use Rattle.lnorm_run.specs.Lines.{line_among, type_line}
 
 -- ---- a walk that has its next element at hand
 
@@ -36,10 +35,10 @@ taken shows all left (Some x) steps = sym steps
 abbrev pub type_lines : List (NonterminalString × ReprData) → List NonterminalString → List ℕ
 type_lines rows names = flat_map (λ n. type_line n (found n rows)) names
 
-pub lines_of_rows : {V : Type 0} (f : V → EntryData) (types : TypeTable) (es : List (NonterminalString × V)) →
-    type_lines types.nonterminals (keys_of es) ≡ flat_map (typed_line types) (map (λ e. (e.0, f e.1)) es)
+pub lines_of_rows : {V : Type 0} (f : V → EntryData) (types : List (NonterminalString × ReprData)) (es : List (NonterminalString × V)) →
+    type_lines types (keys_of es) ≡ flat_map (line_among types) (map (λ e. (e.0, f e.1)) es)
 lines_of_rows f types [] = refl
-lines_of_rows f types (e ∷ es) = ap (λ t. typed_line types (e.0, f e.1) ++ t) (lines_of_rows f types es)
+lines_of_rows f types (e ∷ es) = ap (λ t. line_among types (e.0, f e.1) ++ t) (lines_of_rows f types es)
 
 -- text is what is written of the whole, with the lines of the names that are left, of which the rows that are left have the types
 pub record IsMerging (whole text : List ℕ) (names : List NonterminalString) (rows : List (NonterminalString × ReprData)) : Type 0 where
@@ -110,53 +109,54 @@ module _ (whole text : List ℕ) (n : NonterminalString) (ns : List NonterminalS
 
 -- ---- the walks
 
-abbrev seen : List (NonterminalString × TypeRepr) → List (NonterminalString × ReprData)
-seen es = map (λ e. (e.0, repr_view e.1)) es
+module _ {X : Type 0} (view : X → ReprData) where
+  abbrev seen : List (NonterminalString × X) → List (NonterminalString × ReprData)
+  seen es = map (λ e. (e.0, view e.1)) es
 
--- the walks have come to these names and rows
-abbrev pub IsAt : List ℕ → List ℕ → Option (Bor NonterminalString) → List NonterminalString → Option (Bor NonterminalString × Bor TypeRepr) → List (NonterminalString × TypeRepr) → Type 0
-IsAt whole text name names row rows = IsMerging whole text (ahead deref name names) (seen (ahead deref_pair row rows))
+  -- the walks have come to these names and rows
+  abbrev pub IsAt : List ℕ → List ℕ → Option (Bor NonterminalString) → List NonterminalString → Option (Bor NonterminalString × Bor X) → List (NonterminalString × X) → Type 0
+  IsAt whole text name names row rows = IsMerging whole text (ahead deref name names) (seen (ahead deref_pair row rows))
 
-module _ (whole text : List ℕ) (name : Option (Bor NonterminalString)) (names : List NonterminalString) (row : Option (Bor NonterminalString × Bor TypeRepr)) (rows : List (NonterminalString × TypeRepr))
-    (asked typed : Bor NonterminalString) (ty : Bor TypeRepr) (name_is : name ≡ Some asked) (row_is : row ≡ Some (typed, ty)) (at : IsAt whole text name names row rows) where
-  met : IsMerging whole text (asked.now ∷ names) ((typed.now, repr_view ty.now) ∷ seen rows)
-  met = subst (λ o. IsAt whole text (Some asked) names o rows) row_is (subst (λ o. IsAt whole text o names row rows) name_is at)
+module _ {X : Type 0} (view : X → ReprData) (whole text : List ℕ) (name : Option (Bor NonterminalString)) (names : List NonterminalString) (row : Option (Bor NonterminalString × Bor X)) (rows : List (NonterminalString × X))
+    (asked typed : Bor NonterminalString) (ty : Bor X) (name_is : name ≡ Some asked) (row_is : row ≡ Some (typed, ty)) (at : IsAt view whole text name names row rows) where
+  met : IsMerging whole text (asked.now ∷ names) ((typed.now, view ty.now) ∷ seen view rows)
+  met = subst (λ o. IsAt view whole text (Some asked) names o rows) row_is (subst (λ o. IsAt view whole text o names row rows) name_is at)
 
-  pub name_goes : name_cmp asked.now typed.now ≡ Less → (next : Option (Bor NonterminalString)) (left : List NonterminalString) → TakesFirst deref names next left → IsAt whole text next left row rows
+  pub name_goes : name_cmp asked.now typed.now ≡ Less → (next : Option (Bor NonterminalString)) (left : List NonterminalString) → TakesFirst deref names next left → IsAt view whole text next left row rows
   name_goes less next left steps =
-      subst (λ ns. IsMerging whole text ns (seen (ahead deref_pair row rows))) (sym (taken deref names left next steps))
-      (subst (λ o. IsMerging whole text names (seen (ahead deref_pair o rows))) (sym row_is) (name_passed whole text asked.now names (typed.now, repr_view ty.now) (seen rows) met less))
+      subst (λ ns. IsMerging whole text ns (seen view (ahead deref_pair row rows))) (sym (taken deref names left next steps))
+      (subst (λ o. IsMerging whole text names (seen view (ahead deref_pair o rows))) (sym row_is) (name_passed whole text asked.now names (typed.now, view ty.now) (seen view rows) met less))
 
-  pub row_goes : name_cmp asked.now typed.now ≡ Greater → (next : Option (Bor NonterminalString × Bor TypeRepr)) (left : List (NonterminalString × TypeRepr)) → TakesFirst deref_pair rows next left → IsAt whole text name names next left
+  pub row_goes : name_cmp asked.now typed.now ≡ Greater → (next : Option (Bor NonterminalString × Bor X)) (left : List (NonterminalString × X)) → TakesFirst deref_pair rows next left → IsAt view whole text name names next left
   row_goes greater next left steps =
-      subst (λ rs. IsMerging whole text (ahead deref name names) (seen rs)) (sym (taken deref_pair rows left next steps))
-      (subst (λ o. IsMerging whole text (ahead deref o names) (seen rows)) (sym name_is) (row_passed whole text asked.now names (typed.now, repr_view ty.now) (seen rows) met greater))
+      subst (λ rs. IsMerging whole text (ahead deref name names) (seen view rs)) (sym (taken deref_pair rows left next steps))
+      (subst (λ o. IsMerging whole text (ahead deref o names) (seen view rows)) (sym name_is) (row_passed whole text asked.now names (typed.now, view ty.now) (seen view rows) met greater))
 
   pub both_go : name_cmp asked.now typed.now ≡ Equal → (name_next : Option (Bor NonterminalString)) (names_left : List NonterminalString) → TakesFirst deref names name_next names_left
-      → (row_next : Option (Bor NonterminalString × Bor TypeRepr)) (rows_left : List (NonterminalString × TypeRepr)) → TakesFirst deref_pair rows row_next rows_left
-      → IsAt whole (text ++ type_line asked.now (Some (repr_view ty.now))) name_next names_left row_next rows_left
+      → (row_next : Option (Bor NonterminalString × Bor X)) (rows_left : List (NonterminalString × X)) → TakesFirst deref_pair rows row_next rows_left
+      → IsAt view whole (text ++ type_line asked.now (Some (view ty.now))) name_next names_left row_next rows_left
   both_go equal name_next names_left name_steps row_next rows_left row_steps =
-      subst (λ ns. IsMerging whole (text ++ type_line asked.now (Some (repr_view ty.now))) ns (seen (ahead deref_pair row_next rows_left))) (sym (taken deref names names_left name_next name_steps))
-      (subst (λ rs. IsMerging whole (text ++ type_line asked.now (Some (repr_view ty.now))) names (seen rs)) (sym (taken deref_pair rows rows_left row_next row_steps))
-      (both_passed whole text asked.now names (typed.now, repr_view ty.now) (seen rows) met equal))
+      subst (λ ns. IsMerging whole (text ++ type_line asked.now (Some (view ty.now))) ns (seen view (ahead deref_pair row_next rows_left))) (sym (taken deref names names_left name_next name_steps))
+      (subst (λ rs. IsMerging whole (text ++ type_line asked.now (Some (view ty.now))) names (seen view rs)) (sym (taken deref_pair rows rows_left row_next row_steps))
+      (both_passed whole text asked.now names (typed.now, view ty.now) (seen view rows) met equal))
 
 -- before the first steps
-pub begins : {V : Type 0} (f : V → EntryData) (types : TypeTable) (es : List (NonterminalString × V)) (typed : List (NonterminalString × TypeRepr)) (text : List ℕ) →
-    seen typed ≡ types.nonterminals → IsStrictlySortedBy name_cmp (keys_of es) → IsStrictlySortedBy name_cmp (keys_of typed) →
+pub begins : {X V : Type 0} (view : X → ReprData) (f : V → EntryData) (es : List (NonterminalString × V)) (typed : List (NonterminalString × X)) (text : List ℕ) →
+    IsStrictlySortedBy name_cmp (keys_of es) → IsStrictlySortedBy name_cmp (keys_of typed) →
     (name : Option (Bor NonterminalString)) (names : List NonterminalString) → TakesFirst deref (keys_of es) name names →
-    (row : Option (Bor NonterminalString × Bor TypeRepr)) (rows : List (NonterminalString × TypeRepr)) → TakesFirst deref_pair typed row rows →
-    IsAt (text ++ flat_map (typed_line types) (map (λ e. (e.0, f e.1)) es)) text name names row rows
-begins f types es typed text table names_ordered rows_ordered name names name_steps row rows row_steps =
-    let whole : List ℕ = text ++ flat_map (typed_line types) (map (λ e. (e.0, f e.1)) es) in
-    subst (λ ns. IsMerging whole text ns (seen (ahead deref_pair row rows))) (sym (taken deref (keys_of es) names name name_steps))
-    (subst (λ rs. IsMerging whole text (keys_of es) (seen rs)) (sym (taken deref_pair typed rows row row_steps))
+    (row : Option (Bor NonterminalString × Bor X)) (rows : List (NonterminalString × X)) → TakesFirst deref_pair typed row rows →
+    IsAt view (text ++ flat_map (line_among (seen view typed)) (map (λ e. (e.0, f e.1)) es)) text name names row rows
+begins view f es typed text names_ordered rows_ordered name names name_steps row rows row_steps =
+    let whole : List ℕ = text ++ flat_map (line_among (seen view typed)) (map (λ e. (e.0, f e.1)) es) in
+    subst (λ ns. IsMerging whole text ns (seen view (ahead deref_pair row rows))) (sym (taken deref (keys_of es) names name name_steps))
+    (subst (λ rs. IsMerging whole text (keys_of es) (seen view rs)) (sym (taken deref_pair typed rows row row_steps))
     (record {
-      written = ap (λ t. text ++ t) (ap (λ rs. type_lines rs (keys_of es)) table ∙ lines_of_rows f types es);
+      written = ap (λ t. text ++ t) (lines_of_rows f (seen view typed) es);
       names_ordered = names_ordered;
-      rows_ordered = subst (IsStrictlySortedBy name_cmp) (sym (keys_of-map_values repr_view typed)) rows_ordered;
+      rows_ordered = subst (IsStrictlySortedBy name_cmp) (sym (keys_of-map_values view typed)) rows_ordered;
     }))
 
 -- where no row is left
-pub ends : (whole text : List ℕ) (name : Option (Bor NonterminalString)) (names : List NonterminalString) (row : Option (Bor NonterminalString × Bor TypeRepr)) (rows : List (NonterminalString × TypeRepr)) →
-    row ≡ None → IsAt whole text name names row rows → text ≡ whole
-ends whole text name names row rows none at = no_rows whole text (ahead deref name names) [] refl (subst (λ o. IsAt whole text name names o rows) none at)
+pub ends : {X : Type 0} (view : X → ReprData) (whole text : List ℕ) (name : Option (Bor NonterminalString)) (names : List NonterminalString) (row : Option (Bor NonterminalString × Bor X)) (rows : List (NonterminalString × X)) →
+    row ≡ None → IsAt view whole text name names row rows → text ≡ whole
+ends view whole text name names row rows none at = no_rows whole text (ahead deref name names) [] refl (subst (λ o. IsAt view whole text name names o rows) none at)

@@ -3,11 +3,12 @@ ghost use Rattle.std.specs.Prelude.{◌≡◌, true, false, IfOk, IfErr};
 ghost use Rattle.lalrpop_norm_tree.specs.Items.{grammar_view};
 ghost use Rattle.lnorm_run.specs.Answers.{IsAnswerIn, IsFormOf, IsTextIn};
 ghost use Rattle.lnorm_run.specs.Halts.{Explains, Tells};
+ghost use Rattle.lnorm_run.specs.declared.printing.Form.TheVariants.{Lines, Json};
 ghost use Rattle.lnorm_run.specs.Settings.{Settings, settings_view};
 
-use crate::printing::{Afterwards, Printing, text_of, traced_text_of};
+use crate::printing::{Afterwards, Form, Printing, json_of, lines_of, traced_text_of};
 use crate::words::Asked;
-use lalrpop_norm::normalize::{NormFailure, normalize, normalize_traced};
+use lalrpop_norm::normalize::{NormFailure, normalize, normalize_rules, normalize_traced};
 use lalrpop_norm_json::{TreeError, read_tree};
 use lalrpop_norm_tree::grammar::parse_tree::Grammar;
 use lnorm_streams::halt::Halt;
@@ -61,13 +62,51 @@ fn plain_text(
     ensures ok { IfOk result (λ text. IsTextIn printing.form (settings_view asked.now) (grammar_view tree) text.items) }
     ensures err { IfErr result (Tells (settings_view asked.now) (grammar_view tree)) }
 {
-    match normalize(alloc, &asked.session, tree) {
-        Ok(lowered) => {
-            let text = text_of(alloc, printing.form, &lowered);
-            put_away(lowered, printing.afterwards);
+    match printing.form {
+        Form::Lines => lines_text(alloc, asked, tree, printing.afterwards),
+        Form::Json => json_text(alloc, asked, tree, printing.afterwards),
+    }
+}
+
+/// The lines for a tree, without origins: no action function is made for them.
+fn lines_text(
+    alloc: Global,
+    asked: &Asked,
+    tree: Grammar,
+    afterwards: Afterwards,
+) -> Result<Vec<u8>, Halt>
+    requires { asked.now.origins ≡ false }
+    ensures ok { IfOk result (λ text. IsTextIn Lines (settings_view asked.now) (grammar_view tree) text.items) }
+    ensures err { IfErr result (Tells (settings_view asked.now) (grammar_view tree)) }
+{
+    match normalize_rules(alloc, &asked.session, tree) {
+        Ok(rules) => {
+            let text = lines_of(alloc, &rules);
+            put_away(rules, afterwards);
             text
         }
         Err(failure) => Err(Halt::Failed(failure)),
+    }
+}
+
+/// The JSON for a tree, without origins.
+fn json_text(
+    alloc: Global,
+    asked: &Asked,
+    tree: Grammar,
+    afterwards: Afterwards,
+) -> Result<Vec<u8>, Halt>
+    requires { asked.now.origins ≡ false }
+    ensures ok { IfOk result (λ text. IsTextIn Json (settings_view asked.now) (grammar_view tree) text.items) }
+    ensures err { IfErr result (Tells (settings_view asked.now) (grammar_view tree)) }
+{
+    match normalize(alloc, &asked.session, tree) {
+        Ok(lowered) => {
+            let text = json_of(alloc, &lowered);
+            put_away(lowered, afterwards);
+            text
+        }
+        Err(error) => Err(Halt::Failed(error)),
     }
 }
 

@@ -1,15 +1,17 @@
 //! What is printed of a lowered grammar.
 ghost use Rattle.std.specs.Prelude.{◌≡◌, ◌++◌, Some, None, IfOk, IfErr, codes};
 ghost use Rattle.lalrpop_norm_faults.specs.declared.failure.NormFailure.TheVariants.{Memory};
-ghost use Rattle.lalrpop_norm_repr.specs.Lowered.{lowered_grammar_view as lowered_view};
+ghost use Rattle.lalrpop_norm_repr.specs.Lowered.{LoweredGrammar, lowered_grammar_view as lowered_view};
+ghost use Rattle.lalrpop_norm_lower.specs.RulesOf.{AreRulesOf};
 ghost use Rattle.lalrpop_norm_explain.specs.TracedGrammars.{grammar_in, origins_in};
 ghost use Rattle.lnorm_streams.specs.declared.halt.Halt.TheVariants.{Failed};
 ghost use Rattle.lnorm_run.specs.Answers.{printed_as};
+ghost use Rattle.lnorm_run.specs.declared.printing.Form.TheVariants.{Lines, Json};
 
 use crate::lines::{lines, traced_lines};
 use lalrpop_norm::explain::Traced;
 use lalrpop_norm::grammar::repr::Grammar;
-use lalrpop_norm::normalize::NormFailure;
+use lalrpop_norm::normalize::{LoweredRules, NormFailure};
 use lalrpop_norm_lowered_json::whole::{grammar_json, traced_json};
 use lnorm_streams::halt::{Halt, Program};
 use std::alloc::{AllocError, Global};
@@ -43,12 +45,20 @@ pub struct Printing {
     pub afterwards: Afterwards,
 }
 
-/// The text of a lowered grammar. The only error is a failed allocation.
-pub(crate) fn text_of(alloc: Global, form: Form, lowered: &Grammar) -> Result<Vec<u8>, Halt>
-    ensures ok { IfOk result (λ text. text.items ≡ printed_as form None (lowered_view lowered.now)) }
+/// The lines of a lowered grammar, from its nonterminals, types and start symbols. The only error is a failed allocation.
+pub(crate) fn lines_of(alloc: Global, rules: &LoweredRules) -> Result<Vec<u8>, Halt>
+    ensures ok { (l : LoweredGrammar) → AreRulesOf l rules.now → IfOk result (λ text. text.items ≡ printed_as Lines None l) }
     ensures err { IfErr result (λ h. h ≡ Failed Memory) }
 {
-    made(text_made(alloc, form, lowered))
+    made(lines_made(alloc, rules))
+}
+
+/// The JSON of a lowered grammar. The only error is a failed allocation.
+pub(crate) fn json_of(alloc: Global, lowered: &Grammar) -> Result<Vec<u8>, Halt>
+    ensures ok { IfOk result (λ text. text.items ≡ printed_as Json None (lowered_view lowered.now)) }
+    ensures err { IfErr result (λ h. h ≡ Failed Memory) }
+{
+    made(json_made(alloc, lowered))
 }
 
 /// The text of a lowered grammar with its origins. The only error is a failed allocation.
@@ -70,13 +80,16 @@ fn made(text: Result<Vec<u8>, AllocError>) -> Result<Vec<u8>, Halt>
     }
 }
 
-fn text_made(alloc: Global, form: Form, lowered: &Grammar) -> Result<Vec<u8>, AllocError>
-    ensures { IfOk result (λ text. text.items ≡ printed_as form None (lowered_view lowered.now)) }
+fn lines_made(alloc: Global, rules: &LoweredRules) -> Result<Vec<u8>, AllocError>
+    ensures { (l : LoweredGrammar) → AreRulesOf l rules.now → IfOk result (λ text. text.items ≡ printed_as Lines None l) }
 {
-    match form {
-        Form::Lines => Ok(lines(alloc, lowered)?.into_bytes()),
-        Form::Json => as_line(grammar_json(alloc, lowered)?),
-    }
+    Ok(lines(alloc, rules)?.into_bytes())
+}
+
+fn json_made(alloc: Global, lowered: &Grammar) -> Result<Vec<u8>, AllocError>
+    ensures { IfOk result (λ text. text.items ≡ printed_as Json None (lowered_view lowered.now)) }
+{
+    as_line(grammar_json(alloc, lowered)?)
 }
 
 fn traced_text_made(alloc: Global, form: Form, traced: &Traced) -> Result<Vec<u8>, AllocError>

@@ -5,15 +5,16 @@ use Rattle.lalrpop_norm_repr.specs.Lowered.{lowered_grammar_view as lowered_view
 use Rattle.lalrpop_norm.specs.Faithful.{origins_of_actions}
 use Rattle.lnorm_run.specs.Answers.{printed_as}
 use Rattle.lnorm_run.specs.Settings.{settings_view}
+use Rattle.lnorm_run.specs.declared.printing.Form.TheVariants.{Json}
 use Rattle.lnorm_run.proofs.FaultlessLemmas.{no_fault_stands}
-use Rattle.lnorm_run.proofs.answer.plain_text.Goals as goal
+use Rattle.lnorm_run.proofs.answer.json_text.Goals as goal
 
 pub returns-in-Ok-clause-ok : goal.returns-in-Ok-clause-ok
 returns-in-Ok-clause-ok c =
     let s = settings_view c.args.asked.now in
     let tree = grammar_view c.args.tree in
     let lowered = lowered_view c.in-Ok.lowered in
-    IfOk-weaker c.text_of-text.result _ _
+    IfOk-weaker c.json_of-text.result _ _
     (λ text printed. record {
       lowered = lowered;
       lowers = record {
@@ -21,9 +22,9 @@ returns-in-Ok-clause-ok c =
         faithful = c.in-Ok.ensures.faithful;
         closed = c.in-Ok.ensures.closed;
       };
-      printed = printed ∙ ap (λ (b : Bool). printed_as c.args.printing.form (if b then Some (origins_of_actions s.features tree s.limit) else None) lowered) (sym c.requires);
+      printed = printed ∙ ap (λ (b : Bool). printed_as Json (if b then Some (origins_of_actions s.features tree s.limit) else None) lowered) (sym c.requires);
     })
-    c.text_of-text.ensures.ok
+    c.json_of-text.ensures.ok
 
 pub returns-in-Err-clause-ok : goal.returns-in-Err-clause-ok
 returns-in-Err-clause-ok c = tt
