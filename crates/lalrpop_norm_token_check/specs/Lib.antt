@@ -2,3 +2,4 @@ pub mod Checked
 pub mod Converted
 pub mod Found
 pub mod Keys
+pub mod Uses

@@ -8,7 +8,6 @@ ghost use Rattle.lalrpop_norm_model.specs.CheckedTokens.{IsChecked};
 ghost use Rattle.lalrpop_norm_model.specs.Entries.{entry_cmp};
 ghost use Rattle.lalrpop_norm_model.specs.LexerFaults.{StandsAtLexer, token_findings, token_findings_with};
 ghost use Rattle.lalrpop_norm_model.specs.TerminalTypes.{extern_enum};
-ghost use Rattle.lalrpop_norm_model.specs.TokenFaults.{places_used};
 ghost use Rattle.lalrpop_norm_token_check.specs.Checked.{ArePlaced, AreTokensOf, GetsTokens, HasFound, IsLexerRefusal};
 ghost use Rattle.lalrpop_norm_token_check.specs.Found.{found_view, IsOrdered};
 
@@ -18,18 +17,19 @@ mod entries;
 mod found;
 mod input;
 mod matches;
+mod uses;
 
 use automaton::automaton_of;
 use conversions::check_enum;
 use entries::entries_of;
 use found::Found;
 use input::{check_input, with_tokens};
-use lalrpop_norm_common::uses::{Use, uses_of};
 use lalrpop_norm_faults::NormResult;
 use lalrpop_norm_lexer::lexer::Lexer;
 use lalrpop_norm_tree::grammar::parse_tree::{Grammar, InternToken, MatchEntry, NoMemory};
 use std::alloc::Global;
 use std::collections::BTreeSet;
+use uses::Uses;
 
 /// The grammar with its tokens: beside an extern enum it stays as it is, else it gets its entries with their automaton, which
 /// the lexer builds, as its last item, the lifetime `'input` as its first type parameter and `input` as its last parameter.
@@ -61,47 +61,22 @@ fn tokens_of<L: Lexer>(
         (λ t. GetsTokens (extern_enum (grammar_view grammar.now)) (L.relations lexer.now) (grammar_view grammar.now)
         (option_map intern_token_view t)) }
 {
-    let uses = uses_of(alloc, &grammar.items)?;
-    tokens_by(alloc, lexer, grammar, &uses)
-}
-
-/// The internal tokens that a grammar gets, where the terminals used are at hand.
-// `tokens_of`, `tokens_by` and `internal_tokens` are apart for drops: what a function owns ends at each `?` behind it, and each
-// end is proved.
-fn tokens_by<L: Lexer>(
-    alloc: Global,
-    lexer: &L,
-    grammar: &Grammar,
-    uses: &[Use],
-) -> NormResult<Option<InternToken>>
-    requires { uses.now ≡ places_used (grammar_view grammar.now) }
-    ensures { RefusesAmongOr (StandsAtLexer (L.relations lexer.now) (grammar_view grammar.now)) result
-        (token_findings (grammar_view grammar.now))
-        (λ t. GetsTokens (extern_enum (grammar_view grammar.now)) (L.relations lexer.now) (grammar_view grammar.now)
-        (option_map intern_token_view t)) }
-{
     match grammar.enum_token() {
         Some(tokens) => {
-            check_enum(alloc, tokens, uses)?;
+            check_enum(alloc, tokens, Uses::of(grammar))?;
             Ok(None)
         }
-        None => Ok(Some(internal_tokens(alloc, lexer, grammar, uses)?)),
+        None => Ok(Some(internal_tokens(alloc, lexer, grammar)?)),
     }
 }
 
 /// The internal tokens of a grammar without an extern enum.
-fn internal_tokens<L: Lexer>(
-    alloc: Global,
-    lexer: &L,
-    grammar: &Grammar,
-    uses: &[Use],
-) -> NormResult<InternToken>
-    requires { uses.now ≡ places_used (grammar_view grammar.now) }
+fn internal_tokens<L: Lexer>(alloc: Global, lexer: &L, grammar: &Grammar) -> NormResult<InternToken>
     ensures { RefusesAmongOr (StandsAtLexer (L.relations lexer.now) (grammar_view grammar.now)) result
         (token_findings_with None (grammar_view grammar.now))
         (λ t. AreTokensOf (L.relations lexer.now) (grammar_view grammar.now) (intern_token_view t)) }
 {
-    let found = entries_of(alloc, grammar.match_token(), uses)?;
+    let found = entries_of(alloc, grammar.match_token(), Uses::of(grammar))?;
     let tokens = tokens_with(alloc, lexer, found)?;
     check_input(alloc, grammar)?;
     Ok(tokens)

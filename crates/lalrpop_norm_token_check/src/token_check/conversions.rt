@@ -7,17 +7,18 @@ ghost use Rattle.lalrpop_norm_model.specs.Expanded.{terminals_converted};
 ghost use Rattle.lalrpop_norm_model.specs.TokenFaults.{each_after, repeated_conversion_faults, has_conversion};
 ghost use Rattle.lalrpop_norm_token_check.specs.Converted.{twice_from, converted_faults};
 ghost use Rattle.lalrpop_norm_token_check.specs.Keys.{with_keys, terminal_in};
+ghost use Rattle.lalrpop_norm_token_check.specs.Uses.{uses_left};
 
 use super::found::add_name;
-use lalrpop_norm_common::uses::Use;
+use super::uses::Uses;
 use lalrpop_norm_faults::{FaultKind, NormResult, refusal};
 use lalrpop_norm_tree::grammar::parse_tree::{Conversion, EnumToken, Span, TerminalString};
 use std::alloc::Global;
 use std::collections::BTreeSet;
 
 /// Rejects two conversions of one terminal, and a terminal that is used and has none.
-pub(super) fn check_enum(alloc: Global, tokens: &EnumToken, uses: &[Use]) -> NormResult<()>
-    ensures { Refuses result (converted_faults (enum_token_view tokens.now) uses.now) }
+pub(super) fn check_enum(alloc: Global, tokens: &EnumToken, uses: Uses<'_>) -> NormResult<()>
+    ensures { Refuses result (converted_faults (enum_token_view tokens.now) (uses_left uses.entry)) }
 {
     let converted = terminals_of(alloc, &tokens.conversions)?;
     check_uses(alloc, &converted, uses)
@@ -48,11 +49,12 @@ fn add_conversions(
     Ok(())
 }
 
-fn check_uses(alloc: Global, converted: &BTreeSet<TerminalString>, uses: &[Use]) -> NormResult<()>
-    ensures { Refuses result (flat_map (λ p. fault_if (not (terminal_in converted.now.keys p.0)) (FaultKind.NoPattern, p.1)) uses.now) }
+fn check_uses(alloc: Global, converted: &BTreeSet<TerminalString>, uses: Uses<'_>) -> NormResult<()>
+    ensures { Refuses result
+        (flat_map (λ p. fault_if (not (terminal_in converted.now.keys p.0)) (FaultKind.NoPattern, p.1)) (uses_left uses.entry)) }
 {
     for (terminal, span) in uses {
-        check_use(alloc, converted, terminal, *span)?;
+        check_use(alloc, converted, terminal, span)?;
     }
     Ok(())
 }

@@ -4,11 +4,12 @@ ghost use Rattle.lalrpop_norm_tree.specs.Items.{match_token_view};
 ghost use Rattle.lalrpop_norm_faults.specs.Faults.{IsFirst, Refuses, RefusesOr, fault_if};
 ghost use Rattle.lalrpop_norm_token_check.specs.Found.{found_view, lacks_entry, with_added, with_terminal};
 ghost use Rattle.lalrpop_norm_token_check.specs.Found.{uses_faults, with_uses, found_faults, all_found};
+ghost use Rattle.lalrpop_norm_token_check.specs.Uses.{uses_left};
 
 use super::found::{Found, add_entry, own_mapping};
 use super::matches::add_block;
+use super::uses::Uses;
 use lalrpop_norm_common::match_block::catch_all_of;
-use lalrpop_norm_common::uses::Use;
 use lalrpop_norm_faults::{FaultKind, NormFailure, NormResult, refusal};
 use lalrpop_norm_tree::grammar::parse_tree::{
     MatchToken, NoMemory, Span, TerminalLiteral, TerminalString,
@@ -19,10 +20,10 @@ use std::alloc::Global;
 pub(super) fn entries_of(
     alloc: Global,
     block: Option<&MatchToken>,
-    uses: &[Use],
+    uses: Uses<'_>,
 ) -> NormResult<Found>
-    ensures { RefusesOr result (found_faults (option_map (λ m. match_token_view m.now) block.entry) uses.now)
-        (λ f. found_view f ≡ all_found (option_map (λ m. match_token_view m.now) block.entry) uses.now) }
+    ensures { RefusesOr result (found_faults (option_map (λ m. match_token_view m.now) block.entry) (uses_left uses.entry))
+        (λ f. found_view f ≡ all_found (option_map (λ m. match_token_view m.now) block.entry) (uses_left uses.entry)) }
 {
     let mut found = Found::new(alloc);
     add_block(alloc, &mut found, block)?;
@@ -34,14 +35,14 @@ fn add_uses(
     alloc: Global,
     found: &mut Found,
     catch_all: Option<usize>,
-    uses: &[Use],
+    uses: Uses<'_>,
 ) -> NormResult<()>
     requires { IfSome catch_all (λ p. p < 2 ^ 63) }
-    ensures refuses { Refuses result (uses_faults catch_all (found_view found.old) uses.now) }
-    ensures adds { OnOk result (found_view found.new ≡ with_uses catch_all (found_view found.old) uses.now) }
+    ensures refuses { Refuses result (uses_faults catch_all (found_view found.old) (uses_left uses.entry)) }
+    ensures adds { OnOk result (found_view found.new ≡ with_uses catch_all (found_view found.old) (uses_left uses.entry)) }
 {
     for (terminal, span) in uses {
-        add_use(alloc, found, catch_all, terminal, *span)?;
+        add_use(alloc, found, catch_all, terminal, span)?;
     }
     Ok(())
 }
