@@ -48,7 +48,8 @@ fn read_in_place(
     table: &mut Table,
 ) -> NormResult<()>
     requires { CanRead table.old environment.now }
-    ensures refuses { Refuses result (refused_in table.old (met (read_whole (wholes_in table.old) environment.now (symbol_view symbol.old)))) }
+    ensures refuses { Refuses result
+        (refused_in table.old (met (read_whole (wholes_in table.old) environment.now (symbol_view symbol.old)))) }
     ensures meets { OnOk result (TableMeets table.old table.new
         (met (read_whole (wholes_in table.old) environment.now (symbol_view symbol.old)))) }
     ensures counted { OnOk result (IsCounted table.new) }

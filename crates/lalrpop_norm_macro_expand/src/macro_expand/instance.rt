@@ -1,5 +1,5 @@
 //! The rules of macro calls: those alternatives of the macro whose conditions hold, in the environment of the arguments.
-ghost use Rattle.std.specs.Prelude.{◌≡◌, ◌++◌, OnOk, map, flat_map};
+ghost use Rattle.std.specs.Prelude.{◌≡◌, ◌++◌, [], IfOk, OnOk, map, flat_map};
 ghost use Rattle.lalrpop_norm_tree.specs.Symbols.{parts_view};
 ghost use Rattle.lalrpop_norm_tree.specs.Items.{AlternativeData, alternative_view, rule_view};
 ghost use Rattle.lalrpop_norm_faults.specs.Faults.{Refuses, RefusesOr};
@@ -18,7 +18,7 @@ use lalrpop_norm_macro_expand_rules::macros::NumberedMacro;
 use lalrpop_norm_macro_expand_rules::rules::Head;
 use lalrpop_norm_macro_expand_rules::substituted::Bindings;
 use lalrpop_norm_tree::grammar::parse_tree::{
-    Alternative, NonterminalData, NonterminalString, Symbol,
+    Alternative, NoMemory, NonterminalData, NonterminalString, Symbol,
 };
 use lalrpop_norm_tree_parts::attribute::copy::copy_attributes;
 use std::alloc::Global;
@@ -69,14 +69,23 @@ fn instance_alternatives(
         ≡ flat_map (kept_in bindings.now head.now.span) (map alternative_view alternatives.now))
         × (kept.places.items ≡ kept_places_in bindings.now (map alternative_view alternatives.now))) }
 {
-    let mut kept = Kept {
-        alternatives: Vec::new(alloc),
-        places: Vec::new(alloc),
-    };
+    let mut kept = none_kept(alloc, alternatives.len())?;
     for (place, alternative) in alternatives.iter().enumerate() {
         add_alternative(alloc, bindings, head, place, alternative, &mut kept)?;
     }
     Ok(kept)
+}
+
+/// No alternatives yet, and room for that many.
+fn none_kept(alloc: Global, count: usize) -> Result<Kept, NoMemory>
+    ensures { IfOk result (λ kept. (kept.alternatives.items ≡ []) × (kept.places.items ≡ [])) }
+{
+    let alternatives = Vec::with_capacity(alloc, count)?;
+    let places = Vec::with_capacity(alloc, count)?;
+    Ok(Kept {
+        alternatives,
+        places,
+    })
 }
 
 /// What a call of a macro is desugared to.

@@ -20,7 +20,7 @@ returns-in_err-add_alternative c =
     let x : Alternative = c.index-alternatives-place.result in
     let faults : List Alternative → List Fault = λ ys. flat_map (λ (a : AlternativeData). value_faults argument a.condition) (map alternative_view ys) in
     let rest : List Fault = faults (drop (c.loop-place.place + 1) xs) in
-    exit_or _ _ (faults xs) _ c.from_residual.ensures.1
+    exit_or _ _ (faults xs) _ c.from_residual-in_err-add_alternative.ensures.1
     (subst (λ (fs : List Fault). IsFirst fs c.in_err-add_alternative.field-0.0)
     (sym (at_drop_item faults xs c.loop-place.place x (omega arith) c.index-alternatives-place.is) ∙ c.loop-place.invariant.refuses)
     (first_of_more (value_faults argument x.condition) rest _ c.in_err-add_alternative.ensures.refuses))
