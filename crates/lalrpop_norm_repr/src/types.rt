@@ -59,6 +59,13 @@ impl Types {
         Ok(())
     }
 
+    /// Puts these rows in the place of those of the nonterminals.
+    pub fn set_nonterminals(&mut self, listed: BTreeMap<NonterminalString, TypeRepr>)
+        ensures { type_table self.new ≡ record (type_table self.old) { nonterminals = rows repr_view listed } }
+    {
+        self.nonterminal_types = listed;
+    }
+
     /// Gives a terminal that is not listed (see `has_term_type`) its type. The only error is a failed allocation; the table
     /// is then as it was.
     pub fn add_term_type(&mut self, terminal: TerminalString, ty: TypeRepr) -> Result<(), NoMemory>

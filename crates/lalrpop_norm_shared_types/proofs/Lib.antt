@@ -1,3 +1,4 @@
 pub mod SharedSeen
 pub mod SharedTexts
 pub mod MadeRows
+pub mod RowCopies

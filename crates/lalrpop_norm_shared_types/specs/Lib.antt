@@ -1,2 +1,4 @@
 pub mod Shared
 pub mod Table
+pub mod Actions
+pub mod Grammars

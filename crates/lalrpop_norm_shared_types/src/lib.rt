@@ -1,5 +1,8 @@
-//! Lowered types that share their parts, and the table of the types of nonterminals: what inference makes, and lowering goes on with.
+//! Lowered types that share their parts, the table of the types of nonterminals, and lowered grammars over such types: what inference
+//! and lowering make.
 #![tactic(auto)]
 
+pub mod action;
+pub mod grammar;
 pub mod shared;
 pub mod table;

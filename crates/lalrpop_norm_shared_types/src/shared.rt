@@ -14,7 +14,8 @@ use std::rc::Rc;
 /// A lowered type. A copy shares its parts with it.
 #[cycle(shared)]
 pub struct SharedType {
-    node: Rc<TypeNode>,
+    /// Its outermost level.
+    pub node: Rc<TypeNode>,
 }
 
 /// One level of a lowered type. The variants are those of `TypeRepr`.

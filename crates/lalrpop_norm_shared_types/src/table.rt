@@ -1,8 +1,10 @@
 //! The table of types, where those of nonterminals share their parts.
+ghost use Rattle.std.specs.BTreeMap.{insert_entry};
 ghost use Rattle.std.specs.List.Sorted.{IsStrictlySortedBy};
 ghost use Rattle.std.specs.Map.{keys_of};
 ghost use Rattle.std.specs.Prelude.{◌≡◌, map, None, Some, option_map, IfOk, OnOk, OnErr};
 ghost use Rattle.lalrpop_norm_theory.specs.Rounds.{IsDistinct};
+ghost use Rattle.lalrpop_norm_tree_parts.specs.Reprs.{repr_view};
 ghost use Rattle.lalrpop_norm_tree_names.specs.declared.names.NonterminalString.{NonterminalString};
 ghost use Rattle.lalrpop_norm_repr.specs.Orders.{name_cmp, terminal_cmp};
 ghost use Rattle.lalrpop_norm_repr.specs.Tables.{found, rows, type_of, type_table};
@@ -10,7 +12,7 @@ ghost use Rattle.lalrpop_norm_shared_types.specs.Shared.{shared_view};
 ghost use Rattle.lalrpop_norm_shared_types.specs.Table.{shared_rows, shared_table};
 
 use crate::shared::SharedType;
-use lalrpop_norm_repr::grammar::repr::{NonterminalString, Types};
+use lalrpop_norm_repr::grammar::repr::{NonterminalString, TypeRepr, Types};
 use lalrpop_norm_tree::grammar::parse_tree::NoMemory;
 use std::alloc::Global;
 use std::collections::BTreeMap;
@@ -51,6 +53,38 @@ impl SharedTypes {
             .into_iter()
             .collect(alloc)?;
         Ok(SharedTypes { rest, nonterminals })
+    }
+
+    /// That table, where the types of nonterminals share their parts. The only error is a failed allocation.
+    pub fn of(alloc: Global, types: Types) -> Result<SharedTypes, NoMemory>
+        ensures { IfOk result (λ t. shared_table t ≡ type_table types) }
+    {
+        let nonterminals = shared_rows_of(alloc, types.nonterminals())?;
+        Ok(SharedTypes {
+            rest: types,
+            nonterminals,
+        })
+    }
+
+    /// The table with whole copies of the types of nonterminals. The only error is a failed allocation.
+    pub fn into_types(self, alloc: Global) -> Result<Types, NoMemory>
+        ensures { IfOk result (λ t. type_table t ≡ shared_table self) }
+    {
+        let SharedTypes {
+            mut rest,
+            nonterminals,
+        } = self;
+        let copies = copied_rows(alloc, &nonterminals)?;
+        rest.set_nonterminals(copies);
+        Ok(rest)
+    }
+
+    /// The types that are no nonterminal's, in a table where the nonterminals' rows count for nothing, and those of nonterminals.
+    pub fn into_parts(self) -> (Types, BTreeMap<NonterminalString, SharedType>)
+        ensures { record (type_table result.0) { nonterminals = rows shared_view result.1 } ≡ shared_table self }
+    {
+        let SharedTypes { rest, nonterminals } = self;
+        (rest, nonterminals)
     }
 
     /// Gives a nonterminal that has no type yet (see `lookup_nonterminal_type`) its type. The only error is a failed
@@ -96,4 +130,47 @@ impl SharedTypes {
         let _nonterminals = self.nonterminals.len();
         self.rest.rows_ascend();
     }
+}
+
+/// The rows, each with a whole copy of its type.
+pub(crate) fn copied_rows(
+    alloc: Global,
+    listed: &BTreeMap<NonterminalString, SharedType>,
+) -> Result<BTreeMap<NonterminalString, TypeRepr>, NoMemory>
+    ensures { IfOk result (λ m. rows repr_view m ≡ rows shared_view listed.now) }
+{
+    let mut copies = BTreeMap::new(alloc);
+    for (name, ty) in listed {
+        let name = name.clone()?;
+        let ty = ty.to_repr(alloc)?;
+        insert(&mut copies, name, ty)?;
+    }
+    Ok(copies)
+}
+
+/// The rows, each with its type as one that shares its parts.
+fn shared_rows_of(
+    alloc: Global,
+    listed: &BTreeMap<NonterminalString, TypeRepr>,
+) -> Result<BTreeMap<NonterminalString, SharedType>, NoMemory>
+    ensures { IfOk result (λ m. rows shared_view m ≡ rows repr_view listed.now) }
+{
+    let mut shared = BTreeMap::new(alloc);
+    for (name, ty) in listed {
+        let name = name.clone()?;
+        let ty = SharedType::of(alloc, ty)?;
+        insert(&mut shared, name, ty)?;
+    }
+    Ok(shared)
+}
+
+fn insert<T: Drop>(
+    rows: &mut BTreeMap<NonterminalString, T>,
+    name: NonterminalString,
+    ty: T,
+) -> Result<(), NoMemory>
+    ensures { OnOk result (rows.new.entries ≡ insert_entry name_cmp rows.old.entries name ty) }
+{
+    rows.insert(name, ty)?;
+    Ok(())
 }
