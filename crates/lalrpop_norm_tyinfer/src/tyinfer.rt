@@ -48,22 +48,8 @@ pub fn infer_types(alloc: Global, grammar: &Grammar) -> NormResult<Types>
     ensures refuses { Refuses result (inference_faults (grammar_view grammar.now)) }
     ensures inferred { IfOk result (λ t. IsInferred (grammar_view grammar.now) (type_table t)) }
 {
-    let (types, _names) = infer_types_numbered(alloc, grammar)?;
-    Ok(types)
-}
-
-/// As `infer_types`, and with the table the numbers of the rules' names, by which it was made and the grammar can be lowered
-/// (`lower_numbered`): the number of each rule is its index among the rules, from 0.
-///
-/// Errors: those of `infer_types`.
-pub fn infer_types_numbered(alloc: Global, grammar: &Grammar) -> NormResult<(Types, Names)>
-    requires { IsDistinct (rule_names (grammar_view grammar.now)) }
-    ensures refuses { Refuses result (inference_faults (grammar_view grammar.now)) }
-    ensures inferred { IfOk result (λ p. IsInferred (grammar_view grammar.now) (type_table p.0)) }
-    ensures names { IfOk result (λ p. IsNumbering (rule_names (grammar_view grammar.now)) p.1) }
-{
-    let rules = plain_rules(alloc, &grammar.items)?;
-    infer(alloc, grammar, &rules)
+    let types = infer_shared_types(alloc, grammar)?;
+    Ok(types.into_types(alloc)?)
 }
 
 /// As `infer_types`, with types of nonterminals that share their parts: the type of a rule that another one has too, or has as
@@ -75,34 +61,43 @@ pub fn infer_shared_types(alloc: Global, grammar: &Grammar) -> NormResult<Shared
     ensures refuses { Refuses result (inference_faults (grammar_view grammar.now)) }
     ensures inferred { IfOk result (λ t. IsInferred (grammar_view grammar.now) (shared_table t)) }
 {
+    let (types, _names) = infer_shared_types_numbered(alloc, grammar)?;
+    Ok(types)
+}
+
+/// As `infer_shared_types`, and with the table the numbers of the rules' names, by which it was made and the grammar can be
+/// lowered (`lower_shared`): the number of each rule is its index among the rules, from 0.
+///
+/// Errors: those of `infer_types`.
+pub fn infer_shared_types_numbered(
+    alloc: Global,
+    grammar: &Grammar,
+) -> NormResult<(SharedTypes, Names)>
+    requires { IsDistinct (rule_names (grammar_view grammar.now)) }
+    ensures refuses { Refuses result (inference_faults (grammar_view grammar.now)) }
+    ensures inferred { IfOk result (λ p. IsInferred (grammar_view grammar.now) (shared_table p.0)) }
+    ensures names { IfOk result (λ p. IsNumbering (rule_names (grammar_view grammar.now)) p.1) }
+{
     let rules = plain_rules(alloc, &grammar.items)?;
     infer_shared(alloc, grammar, &rules)
 }
 
 /// The table and the numbers of the names, from the rules with their clauses.
 // The two are apart for drops: what a function owns ends at each `?` behind it, and each end is proved.
-fn infer(alloc: Global, grammar: &Grammar, rules: &[PlainRule]) -> NormResult<(Types, Names)>
+fn infer_shared(
+    alloc: Global,
+    grammar: &Grammar,
+    rules: &[PlainRule],
+) -> NormResult<(SharedTypes, Names)>
     requires seen { map rule_seen rules.now ≡ map with_clauses (all_rules (grammar_view grammar.now)) }
     requires distinct { IsDistinct (rule_names (grammar_view grammar.now)) }
     ensures refuses { Refuses result (inference_faults (grammar_view grammar.now)) }
-    ensures inferred { IfOk result (λ p. IsInferred (grammar_view grammar.now) (type_table p.0)) }
+    ensures inferred { IfOk result (λ p. IsInferred (grammar_view grammar.now) (shared_table p.0)) }
     ensures names { IfOk result (λ p. IsNumbering (rule_names (grammar_view grammar.now)) p.1) }
 {
     let types = checked_table(alloc, grammar, rules)?;
-    let listed = types.by_name(alloc)?;
+    let listed = types.shared_by_name(alloc)?;
     Ok(listed)
-}
-
-/// The table, from the rules with their clauses.
-fn infer_shared(alloc: Global, grammar: &Grammar, rules: &[PlainRule]) -> NormResult<SharedTypes>
-    requires seen { map rule_seen rules.now ≡ map with_clauses (all_rules (grammar_view grammar.now)) }
-    requires distinct { IsDistinct (rule_names (grammar_view grammar.now)) }
-    ensures refuses { Refuses result (inference_faults (grammar_view grammar.now)) }
-    ensures inferred { IfOk result (λ t. IsInferred (grammar_view grammar.now) (shared_table t)) }
-{
-    let types = checked_table(alloc, grammar, rules)?;
-    let table = types.shared_by_name(alloc)?;
-    Ok(table)
 }
 
 /// The table where the rounds end, of rules that have none of the faults.

@@ -13,7 +13,7 @@ use Rattle.lalrpop_norm_theory.specs.Rounds.{In, IsDistinct}
 use Rattle.lalrpop_norm_tree_names.specs.declared.names.NonterminalString.{NonterminalString}
 use Rattle.lalrpop_norm_tree.specs.Accessors.{or_else}
 use Rattle.lalrpop_norm_tree_parts.specs.Reprs.{ReprData}
-use Rattle.lalrpop_norm_repr.specs.Tables.{TypeTable, found}
+use Rattle.lalrpop_norm_repr.specs.Tables.{found}
 use Rattle.lalrpop_norm_model.proofs.LevelLemmas.{at_in}
 use Rattle.lalrpop_norm_model.proofs.ListLemmas.{texts_differ}
 use Rattle.lalrpop_norm_shared_types.specs.declared.shared.SharedType.{SharedType}
@@ -22,7 +22,7 @@ use Rattle.lalrpop_norm_shared_types.specs.Table.{shared_rows}
 use Rattle.lalrpop_norm_tyinfer_steps.proofs.NeedLemmas.{of_mapped_at}
 use Rattle.lalrpop_norm_tyinfer_steps.specs.declared.numbered.Numbered.{Numbered}
 use Rattle.lalrpop_norm_tyinfer_steps.specs.Needs.{AreRuleNumbers}
-use Rattle.lalrpop_norm_tyinfer_steps.specs.Numbered.{names_numbered, type_of_rule, type_at, type_by_number, row_if, typed_rows, row_with, rows_of_rules, numbered_table, IsNumberOf, PutsType, PutsRow}
+use Rattle.lalrpop_norm_tyinfer_steps.specs.Numbered.{names_numbered, type_of_rule, type_at, type_by_number, row_if, typed_rows, row_with, rows_of_rules, numbered_table, IsNumberOf, PutsType}
 use Rattle.lalrpop_norm_tyinfer_steps.specs.TableValues.{nonterminal_named, type_by_name}
 
 -- ---- a row for each name
@@ -208,47 +208,6 @@ module _ (t : Numbered) (numbers : AreRuleNumbers (number_in_table t.names) (nam
 
   pub first_is : first_typed n t.rules.items ≡ type_by_name (numbered_table t) n
   first_is = first_case (number_in_table t.names n) refl ∙ sym (name_by_number t n)
-
--- the rules up to here are in the table
-pub record PutsRules (before tt : TypeTable) (rest rules : List (NonterminalString × Option SharedType)) : Type 0 where
-  pub types : (n : List ℕ) → or_else (type_by_name tt n) (first_typed n rest) ≡ first_typed n rules
-  pub fresh : (n : List ℕ) → In n (names_in_rules rest) → type_by_name tt n ≡ None
-  pub distinct : IsDistinct (names_in_rules rest)
-  pub others : tt ≡ record before { nonterminals = tt.nonterminals }
-
-or_twice : (n m : List ℕ) (v : Option ReprData) (w : Option ReprData) → n ≡ m → or_else (if bytes_eq n m then v else None) w ≡ or_else v w
-or_twice n m v w e = let is : bytes_eq n m ≡ true = (bytes_eq-Decides n m).1 e in rw is refl
-
-puts_case : (before tt after : TypeTable) (r : NonterminalString × Option SharedType) (rest rules : List (NonterminalString × Option SharedType)) → PutsRules before tt (r ∷ rest) rules →
-    PutsRow tt after r.0.0 (option_map shared_view r.1) → (n : List ℕ) → (b : Bool) → bytes_eq n r.0.0 ≡ b → or_else (type_by_name after n) (first_typed n rest) ≡ first_typed n rules
-puts_case before tt after r rest rules p row n true e =
-    let same : n ≡ r.0.0 = (bytes_eq-Decides n r.0.0).0 e in
-    let none : type_by_name tt n ≡ None = ap (type_by_name tt) same ∙ p.fresh r.0.0 (inl refl) in
-    ap (λ o. or_else o (first_typed n rest)) (ap (type_by_name after) same ∙ row.here)
-    ∙ (sym (or_twice n r.0.0 (option_map shared_view r.1) (first_typed n rest) same) ∙ (sym (ap (λ o. or_else o (first_typed n (r ∷ rest))) none) ∙ p.types n))
-puts_case before tt after r rest rules p row n false e =
-    ap (λ o. or_else o (first_typed n rest)) (row.others n (texts_differ n r.0.0 e))
-    ∙ (sym (ap (or_else (type_by_name tt n)) (typed_behind n r rest (texts_differ n r.0.0 e) false e)) ∙ p.types n)
-
-pub puts_more : (before tt after : TypeTable) (r : NonterminalString × Option SharedType) (rest rules : List (NonterminalString × Option SharedType)) → PutsRules before tt (r ∷ rest) rules →
-    PutsRow tt after r.0.0 (option_map shared_view r.1) → PutsRules before after rest rules
-puts_more before tt after r rest rules p row = record {
-  types = λ n. puts_case before tt after r rest rules p row n (bytes_eq n r.0.0) refl;
-  fresh = λ n h. row.others n (λ same. p.distinct.0 (subst (λ m. In m (names_in_rules rest)) same h)) ∙ p.fresh n (inr h);
-  distinct = p.distinct.1;
-  others = row.rest ∙ ap (λ (u : TypeTable). record u { nonterminals = after.nonterminals }) p.others;
-}
-
-pub puts_none : (tt : TypeTable) (rules : List (NonterminalString × Option SharedType)) → tt.nonterminals ≡ [] → IsDistinct (names_in_rules rules) → PutsRules tt tt rules rules
-puts_none tt rules empty distinct = record {
-  types = λ n. ap (λ o. or_else o (first_typed n rules)) (ap (found (nonterminal_named n)) empty);
-  fresh = λ n h. ap (found (nonterminal_named n)) empty;
-  distinct = distinct;
-  others = refl;
-}
-
-pub puts_all : (before tt : TypeTable) (rest rules : List (NonterminalString × Option SharedType)) → rest ≡ [] → PutsRules before tt rest rules → (n : List ℕ) → type_by_name tt n ≡ first_typed n rules
-puts_all before tt rest rules none p n = sym (or_none (type_by_name tt n)) ∙ (ap (λ rs. or_else (type_by_name tt n) (first_typed n rs)) (sym none) ∙ p.types n)
 
 pub none_left : {X : Type 0} (xs : List X) → length xs ≡ 0 → xs ≡ []
 none_left [] e = refl

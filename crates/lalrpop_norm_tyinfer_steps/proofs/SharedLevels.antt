@@ -1,17 +1,17 @@
 -- A type that shares its parts, by its outermost level.
-use Rattle.std.proofs.Common.{◌≡◌, ℕ, Bool, List, Option, Vec, Global, option_map, ap, sym, ◌∙◌}
+use Rattle.std.proofs.Common.{◌≡◌, Bool, List, Option, Vec, Global, option_map, ap, sym, ◌∙◌}
 use Rattle.lalrpop_norm_tree_names.specs.declared.names.Lifetime.{Lifetime}
 use Rattle.lalrpop_norm_tree_names.specs.declared.names.TypeParameter.{TypeParameter}
 use Rattle.lalrpop_norm_tree_parts.specs.declared.path.Path.{Path}
 use Rattle.lalrpop_norm_tree_parts.specs.Paths.{path_view}
-use Rattle.lalrpop_norm_tree_parts.specs.Reprs.{ReprData, Applied, tuple, slice, nominal, associated, of_lifetime, reference, trait_object, function, maybe_repr_of}
+use Rattle.lalrpop_norm_tree_parts.specs.Reprs.{ReprData, Applied, tuple, slice, nominal, reference, trait_object, function, maybe_repr_of}
 use Rattle.lalrpop_norm_shared_types.specs.Shared.{node_step, applied_path_step, shared_step, shared_view, node_view, applied_path_view, shared_all}
 use Rattle.lalrpop_norm_shared_types.specs.declared.shared.SharedType.{SharedType}
 use Rattle.lalrpop_norm_shared_types.specs.declared.shared.TypeNode.{TypeNode}
 use Rattle.lalrpop_norm_shared_types.specs.declared.shared.AppliedPath.{AppliedPath}
 use Rattle.lalrpop_norm_shared_types.specs.declared.shared.TypeNode.TheVariants as variant
 use Rattle.lalrpop_norm_shared_types.specs.declared.shared.TypeNode.TheOpen.{TypeNode-F}
-use Rattle.lalrpop_norm_shared_types.specs.declared.shared.TypeNode.TheViews.{rolls-Slice, rolls-Nominal, rolls-Associated, rolls-Lifetime, rolls-Ref, rolls-TraitObject}
+use Rattle.lalrpop_norm_shared_types.specs.declared.shared.TypeNode.TheViews.{rolls-Slice, rolls-Nominal, rolls-Ref, rolls-TraitObject}
 use Rattle.lalrpop_norm_shared_types.specs.declared.shared.TypeNode.TheFolds.{fold-roll-TypeNode}
 use Rattle.lalrpop_norm_shared_types.proofs.SharedSeen.{tuple_seen, function_seen}
 
@@ -20,12 +20,6 @@ slice_seen t = ap node_view (sym (rolls-Slice t)) ∙ fold-roll-TypeNode ReprDat
 
 pub nominal_seen : (n : AppliedPath) → node_view (variant.Nominal n) ≡ nominal (applied_path_view n).0 (applied_path_view n).1
 nominal_seen n = ap node_view (sym (rolls-Nominal n)) ∙ fold-roll-TypeNode ReprData Applied ReprData node_step applied_path_step shared_step (TypeNode-F.Nominal n)
-
-pub associated_seen : (p a : List ℕ) → node_view (variant.Associated p a) ≡ associated p a
-associated_seen p a = ap node_view (sym (rolls-Associated p a)) ∙ fold-roll-TypeNode ReprData Applied ReprData node_step applied_path_step shared_step (TypeNode-F.Associated p a)
-
-pub lifetime_seen : (l : Lifetime) → node_view (variant.Lifetime l) ≡ of_lifetime l
-lifetime_seen l = ap node_view (sym (rolls-Lifetime l)) ∙ fold-roll-TypeNode ReprData Applied ReprData node_step applied_path_step shared_step (TypeNode-F.Lifetime l)
 
 pub reference_seen : (l : Option Lifetime) (m : Bool) (t : SharedType) → node_view (variant.Ref l m t) ≡ reference l m (shared_view t)
 reference_seen l m t = ap node_view (sym (rolls-Ref l m t)) ∙ fold-roll-TypeNode ReprData Applied ReprData node_step applied_path_step shared_step (TypeNode-F.Ref l m t)
@@ -44,12 +38,6 @@ module _ (k : TypeNode) (d : ReprData) (seen : node_view k ≡ d) where
 
   pub at_nominal : (n : AppliedPath) → k ≡ variant.Nominal n → d ≡ nominal (applied_path_view n).0 (applied_path_view n).1
   at_nominal n is = sym seen ∙ (ap node_view is ∙ nominal_seen n)
-
-  pub at_associated : (p a : List ℕ) → k ≡ variant.Associated p a → d ≡ associated p a
-  at_associated p a is = sym seen ∙ (ap node_view is ∙ associated_seen p a)
-
-  pub at_lifetime : (l : Lifetime) → k ≡ variant.Lifetime l → d ≡ of_lifetime l
-  at_lifetime l is = sym seen ∙ (ap node_view is ∙ lifetime_seen l)
 
   pub at_reference : (l : Option Lifetime) (m : Bool) (t : SharedType) → k ≡ variant.Ref l m t → d ≡ reference l m (shared_view t)
   at_reference l m t is = sym seen ∙ (ap node_view is ∙ reference_seen l m t)

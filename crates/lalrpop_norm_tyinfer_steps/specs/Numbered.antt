@@ -8,7 +8,7 @@ use Rattle.lalrpop_norm_shared_types.specs.declared.shared.SharedType.{SharedTyp
 use Rattle.lalrpop_norm_shared_types.specs.Shared.{shared_view}
 use Rattle.lalrpop_norm_tyinfer_steps.specs.declared.numbered.Numbered.{Numbered}
 use Rattle.lalrpop_norm_tyinfer_steps.specs.Needs.{names_seen, AreRuleNumbers}
-use Rattle.lalrpop_norm_tyinfer_steps.specs.TableValues.{nonterminal_named, type_by_name}
+use Rattle.lalrpop_norm_tyinfer_steps.specs.TableValues.{nonterminal_named}
 use Rattle.lalrpop_norm_tyinfer_steps.specs.Visits.{Seen}
 
 -- the names, each at its number
@@ -76,9 +76,3 @@ pub record NumbersRules (t : Numbered) (ss : List Seen) : Type 0 where
   pub numbers : AreRuleNumbers (number_in_table t.names) (names_seen ss)
   pub listed : names_numbered t ≡ names_seen ss
   pub tokens : (type_table t.tokens).nonterminals ≡ []
-
--- the name takes the type, if there is one
-pub record PutsRow (before after : TypeTable) (n : List ℕ) (v : Option ReprData) : Type 0 where
-  pub here : type_by_name after n ≡ v
-  pub others : (m : List ℕ) → (m ≡ n → ⊥) → type_by_name after m ≡ type_by_name before m
-  pub rest : after ≡ record before { nonterminals = after.nonterminals }

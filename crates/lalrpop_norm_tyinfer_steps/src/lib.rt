@@ -10,6 +10,7 @@ pub mod rules;
 pub mod same;
 pub mod stops;
 pub mod tokens;
+mod type_levels;
 pub mod type_sources;
 pub mod values;
 pub mod waiting;

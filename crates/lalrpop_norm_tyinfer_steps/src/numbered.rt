@@ -11,7 +11,7 @@ ghost use Rattle.lalrpop_norm_repr.specs.Orders.{name_cmp, terminal_cmp};
 ghost use Rattle.lalrpop_norm_repr.specs.Tables.{type_table, type_of, type_of_terminal};
 ghost use Rattle.lalrpop_norm_tyinfer_steps.specs.Needs.{AreRuleNumbers};
 ghost use Rattle.lalrpop_norm_tyinfer_steps.specs.Numbered.{names_numbered, type_at, type_by_number, numbered_table};
-ghost use Rattle.lalrpop_norm_tyinfer_steps.specs.Numbered.{row_with, rows_of_rules, IsNumberOf, PutsType, PutsRow};
+ghost use Rattle.lalrpop_norm_tyinfer_steps.specs.Numbered.{row_with, rows_of_rules, IsNumberOf, PutsType};
 ghost use Rattle.lalrpop_norm_tyinfer_steps.specs.TableValues.{type_by_name};
 
 use lalrpop_norm_names::Names;
@@ -117,48 +117,25 @@ impl Numbered {
         self.tokens.opt_terminal_loc_type()
     }
 
-    /// The types by name, each a whole copy, and the numbers of the names.
-    pub fn by_name(self, alloc: Global) -> Result<(Types, Names), NoMemory>
+    /// The types by name, as they are shared, and the numbers of the names.
+    pub fn shared_by_name(self, alloc: Global) -> Result<(SharedTypes, Names), NoMemory>
         requires numbers { AreRuleNumbers (number_in_table self.names) (names_numbered self) }
         requires distinct { IsDistinct (names_numbered self) }
         requires tokens { (type_table self.tokens).nonterminals ≡ [] }
-        ensures same { IfOk result (λ p. (n : List ℕ) → type_by_name (type_table p.0) n ≡ type_by_name (numbered_table self) n) }
-        ensures rest { IfOk result (λ p. type_table p.0 ≡ record (numbered_table self) { nonterminals = (type_table p.0).nonterminals }) }
-        ensures names_in_order { IfOk result (λ p. IsStrictlySortedBy name_cmp (keys_of (type_table p.0).nonterminals)) }
-        ensures terminals_in_order { IfOk result (λ p. IsStrictlySortedBy terminal_cmp (keys_of (type_table p.0).terminals)) }
+        ensures same { IfOk result (λ p. (n : List ℕ) → type_by_name (shared_table p.0) n ≡ type_by_name (numbered_table self) n) }
+        ensures rest { IfOk result (λ p. shared_table p.0 ≡ record (numbered_table self) { nonterminals = (shared_table p.0).nonterminals }) }
+        ensures names_in_order { IfOk result (λ p. IsStrictlySortedBy name_cmp (keys_of (shared_table p.0).nonterminals)) }
+        ensures terminals_in_order { IfOk result (λ p. IsStrictlySortedBy terminal_cmp (keys_of (shared_table p.0).terminals)) }
         ensures numbers { IfOk result (λ p. p.1 ≡ self.names) }
-    {
-        let Numbered {
-            names,
-            rules,
-            mut tokens,
-        } = self;
-        for rule in rules {
-            put_row(alloc, &mut tokens, rule.0, rule.1)?;
-        }
-        // A law, which does nothing: it gives the order of the rows.
-        tokens.rows_ascend();
-        Ok((tokens, names))
-    }
-
-    /// The types by name, as they are shared.
-    pub fn shared_by_name(self, alloc: Global) -> Result<SharedTypes, NoMemory>
-        requires numbers { AreRuleNumbers (number_in_table self.names) (names_numbered self) }
-        requires distinct { IsDistinct (names_numbered self) }
-        requires tokens { (type_table self.tokens).nonterminals ≡ [] }
-        ensures same { IfOk result (λ t. (n : List ℕ) → type_by_name (shared_table t) n ≡ type_by_name (numbered_table self) n) }
-        ensures rest { IfOk result (λ t. shared_table t ≡ record (numbered_table self) { nonterminals = (shared_table t).nonterminals }) }
-        ensures names_in_order { IfOk result (λ t. IsStrictlySortedBy name_cmp (keys_of (shared_table t).nonterminals)) }
-        ensures terminals_in_order { IfOk result (λ t. IsStrictlySortedBy terminal_cmp (keys_of (shared_table t).terminals)) }
     {
         let Numbered {
             names,
             rules,
             tokens,
         } = self;
-        drop(names);
         let rows = rows_with_types(alloc, rules)?;
-        SharedTypes::of_rows(alloc, tokens, rows)
+        let types = SharedTypes::of_rows(alloc, tokens, rows)?;
+        Ok((types, names))
     }
 }
 
@@ -175,22 +152,6 @@ fn untyped(
         rules.push((name, None))?;
     }
     Ok(rules)
-}
-
-/// Gives a nonterminal that has no type yet a copy of its type, if there is one.
-fn put_row(
-    alloc: Global,
-    types: &mut Types,
-    name: NonterminalString,
-    ty: Option<SharedType>,
-) -> Result<(), NoMemory>
-    requires { type_by_name (type_table types.old) name.0 ≡ None }
-    ensures { OnOk result (PutsRow (type_table types.old) (type_table types.new) name.0 (option_map shared_view ty)) }
-{
-    match ty {
-        Some(ty) => types.add_type(name, ty.to_repr(alloc)?),
-        None => Ok(()),
-    }
 }
 
 /// The rules that have types, each with its type.

@@ -6,7 +6,6 @@ use Rattle.lalrpop_norm_shared_types.specs.declared.shared.SharedType.{SharedTyp
 use Rattle.lalrpop_norm_shared_types.specs.Table.{shared_rows}
 use Rattle.lalrpop_norm_tyinfer_steps.specs.TableValues.{nonterminal_named}
 use Rattle.lalrpop_norm_tyinfer_steps.proofs.NumberedLemmas.{first_is, names_in_rows, rows_distinct, rows_first}
-use Rattle.lalrpop_norm_tyinfer_steps.proofs.StopLemmas.{if_ok}
 use Rattle.lalrpop_norm_tyinfer_steps.proofs.numbered.Numbered.shared_by_name.Goals as goal
 
 pub of_rows-requires : goal.of_rows-requires
@@ -14,8 +13,7 @@ of_rows-requires c =
     subst (λ (rows : List (NonterminalString × SharedType)). IsDistinct (names_in_rows rows)) (sym c.in_ok-rows.ensures) (rows_distinct c.args.self.rules.items c.requires.distinct)
 
 pub returns-clause-same : goal.returns-clause-same
-returns-clause-same c =
-    if_ok c.of_rows.result c.of_rows.ensures.listed
-    (λ t listed n. listed (nonterminal_named n)
+returns-clause-same c = λ n.
+    c.in_ok-types.ensures.listed (nonterminal_named n)
     ∙ (ap (λ (rows : List (NonterminalString × SharedType)). found (nonterminal_named n) (shared_rows rows)) c.in_ok-rows.ensures
-    ∙ (rows_first n c.args.self.rules.items ∙ first_is c.args.self c.requires.numbers c.requires.distinct n)))
+    ∙ (rows_first n c.args.self.rules.items ∙ first_is c.args.self c.requires.numbers c.requires.distinct n))
