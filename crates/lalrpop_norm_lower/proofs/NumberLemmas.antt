@@ -28,6 +28,9 @@ decided : (t u : ReprData) (b : Bool) → same_type t u ≡ b → Dec (t ≡ u)
 decided t u true e = yes (type_sound t u e)
 decided t u false e = no (λ is. let alike : same_type t u ≡ true = ap (λ v. same_type t v) (sym is) ∙ type_same t in cc)
 
+pub types_are_set : IsSet ReprData
+types_are_set = hedberg (λ t u. decided t u (same_type t u) refl)
+
 both_decided : (t u : ReprData) → Dec (t ≡ u) → Dec (Some t ≡ Some u)
 both_decided t u (yes is) = yes (ap Some is)
 both_decided t u (no is_not) = no (λ is. is_not cc)

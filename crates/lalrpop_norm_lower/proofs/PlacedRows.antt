@@ -8,16 +8,18 @@ use Rattle.std.proofs.lemmas.List.Quantifiers.{position-Some}
 use Rattle.std.proofs.lemmas.Option.{slice_get-get_or, same_Some, gets}
 use Rattle.std.proofs.lemmas.Slice.Eq.{bytes_eq-Decides}
 use Rattle.lalrpop_norm_tree_names.specs.declared.names.NonterminalString.{NonterminalString}
-use Rattle.lalrpop_norm_tree_parts.specs.Reprs.{ReprData, repr_view}
+use Rattle.lalrpop_norm_tree_parts.specs.Reprs.{ReprData}
 use Rattle.lalrpop_norm_tree.specs.Items.{RuleData}
-use Rattle.lalrpop_norm_tree_parts.specs.declared.lowered.TypeRepr.{TypeRepr}
 use Rattle.lalrpop_norm_names.specs.Numbers.{number_in_table, IsNumbering}
 use Rattle.lalrpop_norm_names.specs.declared.table.Names.{Names}
 use Rattle.lalrpop_norm_model.proofs.ListLemmas.{texts_differ}
 use Rattle.lalrpop_norm_repr.specs.Orders.{name_cmp}
-use Rattle.lalrpop_norm_repr.specs.Tables.{TypeTable, found, type_table, type_of}
-use Rattle.lalrpop_norm_repr.specs.declared.types.Types.{Types}
+use Rattle.lalrpop_norm_repr.specs.Tables.{TypeTable, found, type_of}
 use Rattle.lalrpop_norm_repr.proofs.NameOrder.{none_above}
+use Rattle.lalrpop_norm_shared_types.specs.Shared.{shared_view}
+use Rattle.lalrpop_norm_shared_types.specs.Table.{shared_table}
+use Rattle.lalrpop_norm_shared_types.specs.declared.shared.SharedType.{SharedType}
+use Rattle.lalrpop_norm_shared_types.specs.declared.table.SharedTypes.{SharedTypes}
 use Rattle.lalrpop_norm_lower.proofs.KeyLaws.{names_decide}
 
 -- ---- lists that are written at an index
@@ -41,9 +43,9 @@ pub record WillBeByNumber (types : TypeTable) (names : Names) (count : ℕ) (res
   pub long : length list ≡ count
 
 -- the walk over the rows of a table has come to those that are left
-abbrev pub IsWalkedTo : Types → List RuleData → Names → List (NonterminalString × TypeRepr) → List (Option (Bor TypeRepr)) → Type 0
+abbrev pub IsWalkedTo : SharedTypes → List RuleData → Names → List (NonterminalString × SharedType) → List (Option (Bor SharedType)) → Type 0
 IsWalkedTo table rules names left types =
-    WillBeByNumber (type_table table) names (length rules) (map (λ e. (e.0, repr_view e.1)) left) (map (option_map (λ t. repr_view t.now)) types)
+    WillBeByNumber (shared_table table) names (length rules) (map (λ e. (e.0, shared_view e.1)) left) (map (option_map (λ t. shared_view t.now)) types)
 
 over_none : (o : Option ReprData) → put_over o (Some None) ≡ Some o
 over_none None = refl

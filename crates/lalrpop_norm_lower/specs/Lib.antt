@@ -4,6 +4,7 @@ pub mod Naming
 pub mod Lowering
 pub mod StartTypes
 pub mod Numbered
+pub mod TerminalTypes
 pub mod State
 pub mod Starts
 pub mod Conversions

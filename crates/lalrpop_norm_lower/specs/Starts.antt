@@ -1,8 +1,7 @@
 -- Start symbols of public rules, as lowering counts them: their errors and their rows.
 use Rattle.std.specs.Prelude.{ℕ, ◌+◌, Bool, not, List, [], ◌∷◌, ◌++◌, is_none}
 use Rattle.lalrpop_norm_tree_names.specs.declared.names.NonterminalString.{NonterminalString}
-use Rattle.lalrpop_norm_tree_parts.specs.declared.lowered.TypeRepr.{TypeRepr}
-use Rattle.lalrpop_norm_tree_parts.specs.Reprs.{ReprData, repr_view}
+use Rattle.lalrpop_norm_tree_parts.specs.Reprs.{ReprData}
 use Rattle.lalrpop_norm_tree.specs.Items.{RuleData, rule_view}
 use Rattle.lalrpop_norm_faults.specs.Faults.{Fault, fault_if}
 use Rattle.lalrpop_norm_faults.specs.declared.kind.FaultKind.TheVariants.{StartTaken}
@@ -34,12 +33,8 @@ abbrev pub start_typed : TypeTable → Start → NonterminalString × ReprData
 start_typed types s = (s.name, rule_type types (start_rule s))
 
 -- a start symbol with its type
-abbrev pub typed_row : NonterminalString × TypeRepr → NonterminalString × ReprData
-typed_row p = (p.0, repr_view p.1)
-
--- a start symbol with its type, which shares its parts
-abbrev pub shared_row : NonterminalString × SharedType → NonterminalString × ReprData
-shared_row p = (p.0, shared_view p.1)
+abbrev pub typed_row : NonterminalString × SharedType → NonterminalString × ReprData
+typed_row p = (p.0, shared_view p.1)
 
 -- ---- errors
 

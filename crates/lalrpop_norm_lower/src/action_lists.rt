@@ -1,25 +1,26 @@
 //! The actions of a grammar: those of start symbols, and those of the alternatives of a rule.
 ghost use Rattle.std.specs.Prelude.{◌≡◌, ◌<◌, ◌+◌, ◌++◌, [], ◌∷◌, length, IfOk, OnOk, map, vec_len};
 ghost use Rattle.lalrpop_norm_faults.specs.Faults.{Refuses};
-ghost use Rattle.lalrpop_norm_tree_parts.specs.Reprs.{repr_view, unit_type};
 ghost use Rattle.lalrpop_norm_tree.specs.Items.{RuleData, alternative_view, rule_view};
 ghost use Rattle.lalrpop_norm_model.specs.LoweringFaults.{start_faults, code_faults, action_number_faults};
-ghost use Rattle.lalrpop_norm_repr.specs.Actions.{action_defn_view};
+ghost use Rattle.lalrpop_norm_shared_types.specs.Actions.{shared_action_view};
+ghost use Rattle.lalrpop_norm_shared_types.specs.Shared.{shared_view};
 ghost use Rattle.lalrpop_norm_lower.specs.ActionContexts.{context_types, action_by};
 ghost use Rattle.lalrpop_norm_lower.specs.Lowering.{public_rules_in, rule_type, start_alternative};
 ghost use Rattle.lalrpop_norm_lower.specs.Made.{types_by_name, alternatives_faults, made_starts_faults, made_starts};
-ghost use Rattle.lalrpop_norm_lower.specs.State.{table_by_number, rules_in, IsTypeAt};
+ghost use Rattle.lalrpop_norm_lower.specs.State.{rules_in, IsTypeAt};
 
 use crate::action_context::ActionContext;
+use crate::actions::owned_or_unit;
 use crate::bodies::made_action;
-use crate::numbered::{NumberedTypes, unit_type};
 use crate::placeholders::check_code;
 use crate::rules::public_rules;
 use crate::starts::start_name;
 use lalrpop_norm_faults::NormResult;
 use lalrpop_norm_lower_steps::refusals::{check_start, next_action};
 use lalrpop_norm_lower_steps::start_symbols::start_alternative;
-use lalrpop_norm_repr::grammar::repr::{ActionFnDefn, TypeRepr};
+use lalrpop_norm_shared_types::action::SharedActionFnDefn;
+use lalrpop_norm_shared_types::shared::SharedType;
 use lalrpop_norm_tree::grammar::parse_tree::{
     Alternative, Atom, GrammarItem, NoMemory, NonterminalData,
 };
@@ -29,10 +30,10 @@ use std::alloc::Global;
 pub(crate) fn start_actions(
     context: &ActionContext,
     items: &[GrammarItem],
-) -> NormResult<Vec<ActionFnDefn>>
+) -> NormResult<Vec<SharedActionFnDefn>>
     ensures refuses { Refuses result
         (made_starts_faults context.now.prefix.now (context_types context.now) 0 (public_rules_in (rules_in items.now))) }
-    ensures actions { IfOk result (λ ds. map action_defn_view ds.items
+    ensures actions { IfOk result (λ ds. map shared_action_view ds.items
         ≡ made_starts context.now.prefix.now (context_types context.now) (public_rules_in (rules_in items.now))) }
     ensures count { IfOk result (λ ds. vec_len ds ≡ length (public_rules_in (rules_in items.now))) }
 {
@@ -60,12 +61,12 @@ fn count_actions(items: &[GrammarItem]) -> usize {
 fn add_start_actions(
     context: &ActionContext,
     items: &[GrammarItem],
-    actions: &mut Vec<ActionFnDefn>,
+    actions: &mut Vec<SharedActionFnDefn>,
     names: &mut Vec<Atom>,
 ) -> NormResult<()>
     ensures refuses { Refuses result (made_starts_faults context.now.prefix.now (context_types context.now) (vec_len actions.old)
         (public_rules_in (rules_in items.now))) }
-    ensures adds { OnOk result (map action_defn_view actions.new.items ≡ map action_defn_view actions.old.items
+    ensures adds { OnOk result (map shared_action_view actions.new.items ≡ map shared_action_view actions.old.items
         ++ made_starts context.now.prefix.now (context_types context.now) (public_rules_in (rules_in items.now))) }
     ensures count { OnOk result (vec_len actions.new ≡ vec_len actions.old + length (public_rules_in (rules_in items.now))) }
 {
@@ -77,12 +78,12 @@ fn add_start_actions(
 fn add_starts(
     context: &ActionContext,
     public: &[&NonterminalData],
-    actions: &mut Vec<ActionFnDefn>,
+    actions: &mut Vec<SharedActionFnDefn>,
     names: &mut Vec<Atom>,
 ) -> NormResult<()>
     ensures refuses { Refuses result (made_starts_faults context.now.prefix.now (context_types context.now) (vec_len actions.old)
         (map (λ r. rule_view r.now) public.now)) }
-    ensures adds { OnOk result (map action_defn_view actions.new.items ≡ map action_defn_view actions.old.items
+    ensures adds { OnOk result (map shared_action_view actions.new.items ≡ map shared_action_view actions.old.items
         ++ made_starts context.now.prefix.now (context_types context.now) (map (λ r. rule_view r.now) public.now)) }
     ensures count { OnOk result (vec_len actions.new ≡ vec_len actions.old + length public.now) }
 {
@@ -96,12 +97,12 @@ fn add_starts(
 fn add_start(
     context: &ActionContext,
     rule: &NonterminalData,
-    actions: &mut Vec<ActionFnDefn>,
+    actions: &mut Vec<SharedActionFnDefn>,
     names: &mut Vec<Atom>,
 ) -> NormResult<()>
     ensures refuses { Refuses result (start_faults context.now.prefix.now (types_by_name (context_types context.now)) (rule_view rule.now)
         ++ action_number_faults (vec_len actions.old) rule.now.span) }
-    ensures adds { OnOk result (map action_defn_view actions.new.items ≡ map action_defn_view actions.old.items
+    ensures adds { OnOk result (map shared_action_view actions.new.items ≡ map shared_action_view actions.old.items
         ++ action_by context.now (rule_type (context_types context.now) (rule_view rule.now))
         (start_alternative (rule_view rule.now)) ∷ []) }
     ensures count { OnOk result (vec_len actions.new ≡ vec_len actions.old + 1) }
@@ -123,19 +124,18 @@ fn check_free(context: &ActionContext, rule: &NonterminalData) -> NormResult<()>
 fn add_start_action(
     context: &ActionContext,
     rule: &NonterminalData,
-    actions: &mut Vec<ActionFnDefn>,
+    actions: &mut Vec<SharedActionFnDefn>,
     names: &mut Vec<Atom>,
 ) -> NormResult<()>
     ensures refuses { Refuses result (action_number_faults (vec_len actions.old) rule.now.span) }
-    ensures adds { OnOk result (map action_defn_view actions.new.items ≡ map action_defn_view actions.old.items
+    ensures adds { OnOk result (map shared_action_view actions.new.items ≡ map shared_action_view actions.old.items
         ++ action_by context.now (rule_type (context_types context.now) (rule_view rule.now))
         (start_alternative (rule_view rule.now)) ∷ []) }
     ensures count { OnOk result (vec_len actions.new ≡ vec_len actions.old + 1) }
 {
-    let unit = unit_type(context.alloc);
-    let ty = context.types.nonterminal(&rule.name).unwrap_or(&unit);
+    let ty = owned_or_unit(context.alloc, context.types.nonterminal(&rule.name))?;
     let alternative = start_alternative(context.alloc, rule)?;
-    add_action(context, ty, &alternative, actions, names)
+    add_action(context, &ty, &alternative, actions, names)
 }
 
 /// Adds the actions of the rule of that number.
@@ -143,40 +143,39 @@ pub(crate) fn add_rule(
     context: &ActionContext,
     number: usize,
     rule: &NonterminalData,
-    actions: &mut Vec<ActionFnDefn>,
+    actions: &mut Vec<SharedActionFnDefn>,
     names: &mut Vec<Atom>,
 ) -> NormResult<()>
     requires { IsTypeAt context.now.types.now number rule.now.name }
     ensures refuses { Refuses result (alternatives_faults (vec_len actions.old) (rule_view rule.now).alternatives) }
-    ensures adds { OnOk result (map action_defn_view actions.new.items ≡ map action_defn_view actions.old.items
+    ensures adds { OnOk result (map shared_action_view actions.new.items ≡ map shared_action_view actions.old.items
         ++ map (action_by context.now (rule_type (context_types context.now) (rule_view rule.now))) (rule_view rule.now).alternatives) }
     ensures count { OnOk result (vec_len actions.new ≡ vec_len actions.old + length (rule_view rule.now).alternatives) }
 {
-    let unit = unit_type(context.alloc);
-    let ty = rule_type(context.types, number, &unit);
-    add_alternatives(context, ty, &rule.alternatives, actions, names)
+    let ty = rule_type(context, number)?;
+    add_alternatives(context, &ty, &rule.alternatives, actions, names)
 }
 
-/// The type of the rule of that number. Each rule of a plain grammar has one; where there is none, it is `unit`.
-fn rule_type<'t>(types: &NumberedTypes<'t>, number: usize, unit: &'t TypeRepr) -> &'t TypeRepr
-    requires unit { repr_view unit.now ≡ unit_type }
-    requires within { number < vec_len types.now.by_number }
-    ensures { (r : RuleData) → IsTypeAt types.now number r.name → repr_view result.now ≡ rule_type (table_by_number types.now) r }
+/// The type of the rule of that number. Each rule of a plain grammar has one; where there is none, it is the unit type.
+fn rule_type(context: &ActionContext, number: usize) -> Result<SharedType, NoMemory>
+    requires { number < vec_len context.now.types.now.by_number }
+    ensures { IfOk result (λ t. (r : RuleData) → IsTypeAt context.now.types.now number r.name
+        → shared_view t ≡ rule_type (context_types context.now) r) }
 {
-    types.at(number).unwrap_or(unit)
+    owned_or_unit(context.alloc, context.types.at(number))
 }
 
 /// Adds the actions of alternatives of a rule of that type.
 fn add_alternatives(
     context: &ActionContext,
-    ty: &TypeRepr,
+    ty: &SharedType,
     alternatives: &[Alternative],
-    actions: &mut Vec<ActionFnDefn>,
+    actions: &mut Vec<SharedActionFnDefn>,
     names: &mut Vec<Atom>,
 ) -> NormResult<()>
     ensures refuses { Refuses result (alternatives_faults (vec_len actions.old) (map alternative_view alternatives.now)) }
-    ensures adds { OnOk result (map action_defn_view actions.new.items ≡ map action_defn_view actions.old.items
-        ++ map (action_by context.now (repr_view ty.now)) (map alternative_view alternatives.now)) }
+    ensures adds { OnOk result (map shared_action_view actions.new.items ≡ map shared_action_view actions.old.items
+        ++ map (action_by context.now (shared_view ty.now)) (map alternative_view alternatives.now)) }
     ensures count { OnOk result (vec_len actions.new ≡ vec_len actions.old + length (map alternative_view alternatives.now)) }
 {
     for alternative in alternatives {
@@ -188,15 +187,15 @@ fn add_alternatives(
 /// Adds the action of an alternative of a rule of that type.
 fn add_action(
     context: &ActionContext,
-    ty: &TypeRepr,
+    ty: &SharedType,
     alternative: &Alternative,
-    actions: &mut Vec<ActionFnDefn>,
+    actions: &mut Vec<SharedActionFnDefn>,
     names: &mut Vec<Atom>,
 ) -> NormResult<()>
     ensures refuses { Refuses result (code_faults (alternative_view alternative.now)
         ++ action_number_faults (vec_len actions.old) alternative.now.span) }
-    ensures adds { OnOk result (map action_defn_view actions.new.items ≡ map action_defn_view actions.old.items
-        ++ action_by context.now (repr_view ty.now) (alternative_view alternative.now) ∷ []) }
+    ensures adds { OnOk result (map shared_action_view actions.new.items ≡ map shared_action_view actions.old.items
+        ++ action_by context.now (shared_view ty.now) (alternative_view alternative.now) ∷ []) }
     ensures count { OnOk result (vec_len actions.new ≡ vec_len actions.old + 1) }
 {
     check_action(context.alloc, alternative, actions)?;
@@ -207,7 +206,7 @@ fn add_action(
 fn check_action(
     alloc: Global,
     alternative: &Alternative,
-    actions: &[ActionFnDefn],
+    actions: &[SharedActionFnDefn],
 ) -> NormResult<()>
     ensures refuses { Refuses result (code_faults (alternative_view alternative.now)
         ++ action_number_faults (length actions.now) alternative.now.span) }
@@ -221,14 +220,14 @@ fn check_action(
 /// Adds the action of an alternative whose action code has no fault.
 fn add_made_action(
     context: &ActionContext,
-    ty: &TypeRepr,
+    ty: &SharedType,
     alternative: &Alternative,
-    actions: &mut Vec<ActionFnDefn>,
+    actions: &mut Vec<SharedActionFnDefn>,
     names: &mut Vec<Atom>,
 ) -> Result<(), NoMemory>
     requires counted { code_faults (alternative_view alternative.now) ≡ [] }
-    ensures adds { OnOk result (map action_defn_view actions.new.items ≡ map action_defn_view actions.old.items
-        ++ action_by context.now (repr_view ty.now) (alternative_view alternative.now) ∷ []) }
+    ensures adds { OnOk result (map shared_action_view actions.new.items ≡ map shared_action_view actions.old.items
+        ++ action_by context.now (shared_view ty.now) (alternative_view alternative.now) ∷ []) }
     ensures count { OnOk result (vec_len actions.new ≡ vec_len actions.old + 1) }
 {
     let action = made_action(context, ty, alternative, names)?;

@@ -12,8 +12,9 @@ ghost use Rattle.lalrpop_norm_model.specs.LoweringFaults.{lowering_faults};
 ghost use Rattle.lalrpop_norm_model.specs.PlainRules.{all_rules};
 ghost use Rattle.lalrpop_norm_repr.specs.Lowered as lowered;
 ghost use Rattle.lalrpop_norm_repr.specs.Closed.{IsClosed};
-ghost use Rattle.lalrpop_norm_repr.specs.Actions.{action_defn_view};
 ghost use Rattle.lalrpop_norm_repr.specs.Tables.{TypeTable, type_table};
+ghost use Rattle.lalrpop_norm_shared_types.specs.Actions.{shared_action_view};
+ghost use Rattle.lalrpop_norm_shared_types.specs.Grammars.{shared_grammar_view};
 ghost use Rattle.lalrpop_norm_shared_types.specs.Table.{shared_table};
 ghost use Rattle.lalrpop_norm_lower.specs.Active.{active_grammar};
 ghost use Rattle.lalrpop_norm_lower.specs.CarriedOver.{IsCarriedOver};
@@ -26,7 +27,7 @@ ghost use Rattle.lalrpop_norm_lower.specs.Shape.{IsLoweringOf};
 ghost use Rattle.lalrpop_norm_lower.specs.StartTypes.{start_types, AddsTypes};
 
 use crate::carried::{Carried, carried_of};
-use crate::lowered_rules::{LoweredRules, Produced, produce_shared};
+use crate::lowered_rules::{LoweredRules, Produced, produce};
 use crate::numbered::numbers_of_rules;
 use crate::rules_with_actions::{RulesWithActions, rules_with_actions};
 use crate::start_types::add_start_types;
@@ -34,7 +35,9 @@ use lalrpop_norm_common::Session;
 use lalrpop_norm_faults::NormResult;
 use lalrpop_norm_lower_steps::terminals::terminal_set;
 use lalrpop_norm_names::Names;
-use lalrpop_norm_repr::grammar::repr::{ActionFnDefn, Grammar, Types};
+use lalrpop_norm_repr::grammar::repr::{Grammar, Types};
+use lalrpop_norm_shared_types::action::SharedActionFnDefn;
+use lalrpop_norm_shared_types::grammar::SharedGrammar;
 use lalrpop_norm_shared_types::table::SharedTypes;
 use lalrpop_norm_tree::grammar::parse_tree as pt;
 use lalrpop_norm_tree::grammar::parse_tree::NoMemory;
@@ -67,27 +70,29 @@ pub fn lower<L>(
     ensures closed { IfOk result (λ l. IsClosed (lowered.lowered_grammar_view l)) }
 {
     let names = numbers_of_rules(alloc, &grammar.items)?;
-    lower_numbered(alloc, session, grammar, types, names)
+    let shared = SharedTypes::of(alloc, types)?;
+    let lowered = lower_shared(alloc, session, grammar, shared, names)?;
+    Ok(lowered.into_repr(alloc)?)
 }
 
-/// As [`lower`], where the numbers of the rules' names are there already: the number of each rule is its index among the rules,
-/// from 0.
+/// As [`lower`], over types that share their parts, where the numbers of the rules' names are there already: the number of each rule
+/// is its index among the rules, from 0.
 ///
 /// Errors: those of [`lower`].
-pub fn lower_numbered<L>(
+pub fn lower_shared<L>(
     alloc: Global,
     session: &Session<L>,
     grammar: pt::Grammar,
-    types: Types,
+    types: SharedTypes,
     names: Names,
-) -> NormResult<Grammar>
+) -> NormResult<SharedGrammar>
     requires expanded { IsExpanded (written.grammar_view grammar) }
-    requires typed { IsTyped (features_view session.now.features) (written.grammar_view grammar) (types_by_name (type_table types)) }
+    requires typed { IsTyped (features_view session.now.features) (written.grammar_view grammar) (types_by_name (shared_table types)) }
     requires names { IsNumbering (rule_names (written.grammar_view grammar)) names }
-    ensures refuses { Refuses result (lowering_faults (written.grammar_view grammar) (types_by_name (type_table types))) }
+    ensures refuses { Refuses result (lowering_faults (written.grammar_view grammar) (types_by_name (shared_table types))) }
     ensures lowered { IfOk result (λ l. IsLoweringOf (active_grammar (features_view session.now.features) (written.grammar_view grammar))
-        (all_rules (written.grammar_view grammar)) (type_table types) (lowered.lowered_grammar_view l)) }
-    ensures closed { IfOk result (λ l. IsClosed (lowered.lowered_grammar_view l)) }
+        (all_rules (written.grammar_view grammar)) (shared_table types) (shared_grammar_view l)) }
+    ensures closed { IfOk result (λ l. IsClosed (shared_grammar_view l)) }
 {
     lower_over(alloc, session, grammar, types, names)
 }
@@ -99,16 +104,16 @@ fn lower_over<L>(
     alloc: Global,
     session: &Session<L>,
     grammar: pt::Grammar,
-    types: Types,
+    types: SharedTypes,
     names: Names,
-) -> NormResult<Grammar>
+) -> NormResult<SharedGrammar>
     requires known { all_known (written.grammar_view grammar).attributes ≡ true }
     requires distinct { IsDistinct (map (λ r. r.name.0) (rules_among (written.grammar_view grammar).items)) }
     requires numbering { IsNumbering (map (λ r. r.name.0) (rules_among (written.grammar_view grammar).items)) names }
     ensures refuses { Refuses result
-        (made_faults (written.grammar_view grammar).prefix (type_table types) (rules_among (written.grammar_view grammar).items)) }
-    ensures lowered { IfOk result (λ l. IsMade (features_view session.now.features) (written.grammar_view grammar) (type_table types)
-        (lowered.lowered_grammar_view l)) }
+        (made_faults (written.grammar_view grammar).prefix (shared_table types) (rules_among (written.grammar_view grammar).items)) }
+    ensures lowered { IfOk result (λ l. IsMade (features_view session.now.features) (written.grammar_view grammar) (shared_table types)
+        (shared_grammar_view l)) }
 {
     let carried = carried_of(alloc, session, &grammar)?;
     lower_rest(alloc, grammar, types, carried, names)
@@ -118,16 +123,16 @@ fn lower_over<L>(
 fn lower_rest(
     alloc: Global,
     mut grammar: pt::Grammar,
-    types: Types,
+    types: SharedTypes,
     carried: Carried,
     names: Names,
-) -> NormResult<Grammar>
+) -> NormResult<SharedGrammar>
     requires distinct { IsDistinct (map (λ r. r.name.0) (rules_among (written.grammar_view grammar).items)) }
     requires numbering { IsNumbering (map (λ r. r.name.0) (rules_among (written.grammar_view grammar).items)) names }
     ensures refuses { Refuses result
-        (made_faults (written.grammar_view grammar).prefix (type_table types) (rules_among (written.grammar_view grammar).items)) }
+        (made_faults (written.grammar_view grammar).prefix (shared_table types) (rules_among (written.grammar_view grammar).items)) }
     ensures lowered { IfOk result (λ l. (fs : Features) → IsCarriedOver fs (written.grammar_view grammar) carried
-        → IsMade fs (written.grammar_view grammar) (type_table types) (lowered.lowered_grammar_view l)) }
+        → IsMade fs (written.grammar_view grammar) (shared_table types) (shared_grammar_view l)) }
 {
     let items = mem::replace(&mut grammar.items, Vec::new(alloc));
     let made = rules_with_actions(alloc, grammar.prefix.as_str(), &types, items, names)?;
@@ -137,13 +142,13 @@ fn lower_rest(
 /// The lowered grammar of its parts, where `types` has no start symbols yet.
 fn lowered_with(
     alloc: Global,
-    mut types: Types,
+    mut types: SharedTypes,
     carried: Carried,
     made: RulesWithActions,
-) -> Result<Grammar, NoMemory>
+) -> Result<SharedGrammar, NoMemory>
     ensures { IfOk result (λ l. (fs : Features) (g : GrammarData) → IsCarriedOver fs g carried
-        → AreRulesWithActions g.prefix (type_table types) (rules_among g.items) made
-        → IsMade fs g (type_table types) (lowered.lowered_grammar_view l)) }
+        → AreRulesWithActions g.prefix (shared_table types) (rules_among g.items) made
+        → IsMade fs g (shared_table types) (shared_grammar_view l)) }
 {
     add_start_types(&mut types, made.start_types)?;
     lowered_of(alloc, types, carried, made.actions, made.produced)
@@ -152,24 +157,25 @@ fn lowered_with(
 /// The lowered grammar of its parts, where `types` has the start symbols.
 fn lowered_of(
     alloc: Global,
-    types: Types,
+    types: SharedTypes,
     carried: Carried,
-    actions: Vec<ActionFnDefn>,
+    actions: Vec<SharedActionFnDefn>,
     produced: Produced,
-) -> Result<Grammar, NoMemory>
+) -> Result<SharedGrammar, NoMemory>
     ensures { IfOk result (λ l. (fs : Features) (g : GrammarData) (before : TypeTable) → IsCarriedOver fs g carried
-        → HasActions g before (map action_defn_view actions.items)
+        → HasActions g before (map shared_action_view actions.items)
         → IsProduced g.prefix (rules_among g.items) produced
-        → AddsTypes before (type_table types) (start_types g.prefix before (public_rules_in (rules_among g.items)))
-        → IsMade fs g before (lowered.lowered_grammar_view l)) }
+        → AddsTypes before (shared_table types) (start_types g.prefix before (public_rules_in (rules_among g.items)))
+        → IsMade fs g before (shared_grammar_view l)) }
 {
     let tokens = carried.tokens;
     let terminals = terminal_set(alloc, tokens.all, produced.recovers)?;
     // A law, which does nothing: it gives the order of the rows.
     types.rows_ascend();
+    let (types, nonterminal_types) = types.into_parts();
     let head = carried.head;
     let signature = carried.signature;
-    Ok(Grammar {
+    let rest = Grammar {
         prefix: head.prefix,
         algorithm: carried.algorithm,
         uses_error_recovery: produced.recovers,
@@ -179,12 +185,17 @@ fn lowered_of(
         parameters: signature.parameters,
         where_clauses: signature.where_clauses,
         intern_token: head.intern_token,
-        action_fn_defns: actions,
+        action_fn_defns: Vec::new(alloc),
         terminals,
         nonterminals: produced.nonterminals,
         conversions: tokens.patterns,
         types,
         module_attributes: head.module_attributes,
+    };
+    Ok(SharedGrammar {
+        rest,
+        action_fn_defns: actions,
+        nonterminal_types,
     })
 }
 
@@ -218,7 +229,7 @@ fn rules_over(
         (rules_among (written.grammar_view grammar).items)) }
 {
     let items = mem::replace(&mut grammar.items, Vec::new(alloc));
-    let produced = produce_shared(alloc, grammar.prefix.as_str(), &mut types, items)?;
+    let produced = produce(alloc, grammar.prefix.as_str(), &mut types, items)?;
     // A law, which does nothing: it gives the order of the rows.
     types.rows_ascend();
     Ok(LoweredRules {

@@ -19,12 +19,12 @@ mod placeholders;
 mod recovery;
 mod rules;
 mod rules_with_actions;
-mod shared_start_types;
 mod start_types;
 mod starts;
 mod state;
 mod symbols;
+mod terminal_types;
 mod tokens;
 
-pub use grammars::{lower, lower_numbered, lower_rules};
+pub use grammars::{lower, lower_rules, lower_shared};
 pub use lowered_rules::LoweredRules;

@@ -1,35 +1,34 @@
 //! What lowering makes of the rules of a whole grammar: what it makes of rules alone, with their actions.
-ghost use Rattle.std.specs.Prelude.{◌≡◌, ◌+◌, ◌++◌, [], length, IfOk, OnOk, map, vec_len};
+ghost use Rattle.std.specs.Prelude.{◌≡◌, ◌+◌, ◌++◌, length, IfOk, OnOk, map, vec_len};
 ghost use Rattle.lalrpop_norm_faults.specs.Faults.{Refuses};
 ghost use Rattle.lalrpop_norm_theory.specs.Rounds.{IsDistinct};
 ghost use Rattle.lalrpop_norm_tree.specs.Items.{rule_view};
 ghost use Rattle.lalrpop_norm_names.specs.Numbers.{IsNumbering};
-ghost use Rattle.lalrpop_norm_repr.specs.Actions.{action_defn_view};
-ghost use Rattle.lalrpop_norm_repr.specs.Tables.{type_table};
+ghost use Rattle.lalrpop_norm_shared_types.specs.Actions.{shared_action_view};
+ghost use Rattle.lalrpop_norm_shared_types.specs.Table.{shared_table};
 ghost use Rattle.lalrpop_norm_lower.specs.ActionContexts.{context_types, action_by};
 ghost use Rattle.lalrpop_norm_lower.specs.Carried.{uses_recovery};
-ghost use Rattle.lalrpop_norm_lower.specs.Lowering.{public_rules_in, rule_type, rule_entry, rule_rows, start_names, start_rows};
-ghost use Rattle.lalrpop_norm_lower.specs.Lowering.{with_entry, sorted_onto};
-ghost use Rattle.lalrpop_norm_lower.specs.Made.{alternatives_faults, made_faults, made_starts_faults, made_rules_faults, made_actions};
+ghost use Rattle.lalrpop_norm_lower.specs.Lowering.{rule_type, rule_entry, rule_rows, with_entry, sorted_onto};
+ghost use Rattle.lalrpop_norm_lower.specs.Made.{alternatives_faults, made_faults, made_rules_faults, made_actions};
 ghost use Rattle.lalrpop_norm_lower.specs.RulesWithActions.{AreRulesWithActions};
-ghost use Rattle.lalrpop_norm_lower.specs.Starts.{typed_row};
-ghost use Rattle.lalrpop_norm_lower.specs.StartTypes.{start_types};
 ghost use Rattle.lalrpop_norm_lower.specs.State.{table_by_number, state_nonterminals, rules_in, IsTypeAt, AreTypesFrom};
 
 use crate::action_context::ActionContext;
 use crate::action_lists::start_actions;
-use crate::lowered_rules::Produced;
-use crate::nonterminals::{add_starts, next_item, sees_error};
+use crate::lowered_rules::{Produced, start};
+use crate::nonterminals::{next_item, sees_error};
 use crate::numbered::NumberedTypes;
 use crate::recovery::some_error;
-use crate::start_types::{starts_among, typed_starts};
-use crate::starts::start_table;
 use crate::state::RuleState;
 use crate::{action_lists, nonterminals};
 use lalrpop_norm_faults::NormResult;
 use lalrpop_norm_names::Names;
-use lalrpop_norm_repr::grammar::repr::{ActionFnDefn, NonterminalString, TypeRepr, Types};
-use lalrpop_norm_tree::grammar::parse_tree::{Atom, GrammarItem, NonterminalData};
+use lalrpop_norm_shared_types::action::SharedActionFnDefn;
+use lalrpop_norm_shared_types::shared::SharedType;
+use lalrpop_norm_shared_types::table::SharedTypes;
+use lalrpop_norm_tree::grammar::parse_tree::{
+    Atom, GrammarItem, NonterminalData, NonterminalString,
+};
 use std::alloc::Global;
 use std::collections::BTreeMap;
 
@@ -37,29 +36,22 @@ use std::collections::BTreeMap;
 #[derive(Drop)]
 pub(crate) struct RulesWithActions {
     pub(crate) produced: Produced,
-    pub(crate) actions: Vec<ActionFnDefn>,
-    pub(crate) start_types: Vec<(NonterminalString, TypeRepr)>,
-}
-
-/// Start symbols of public rules: for each rule its start symbol, and each start symbol with its type.
-#[derive(Drop)]
-struct StartSymbols {
-    names: BTreeMap<NonterminalString, NonterminalString>,
-    types: Vec<(NonterminalString, TypeRepr)>,
+    pub(crate) actions: Vec<SharedActionFnDefn>,
+    pub(crate) start_types: Vec<(NonterminalString, SharedType)>,
 }
 
 /// What is made of the rules among the items, with their actions, by the table of their types and the numbers of their names.
 pub(crate) fn rules_with_actions(
     alloc: Global,
     prefix: &str,
-    types: &Types,
+    types: &SharedTypes,
     items: Vec<GrammarItem>,
     names: Names,
 ) -> NormResult<RulesWithActions>
     requires distinct { IsDistinct (map (λ r. r.name.0) (rules_in items.items)) }
     requires numbering { IsNumbering (map (λ r. r.name.0) (rules_in items.items)) names }
-    ensures refuses { Refuses result (made_faults prefix.now (type_table types.now) (rules_in items.items)) }
-    ensures made { IfOk result (AreRulesWithActions prefix.now (type_table types.now) (rules_in items.items)) }
+    ensures refuses { Refuses result (made_faults prefix.now (shared_table types.now) (rules_in items.items)) }
+    ensures made { IfOk result (AreRulesWithActions prefix.now (shared_table types.now) (rules_in items.items)) }
 {
     let types = NumberedTypes::of(alloc, types, &items, names)?;
     made_by(alloc, prefix, &types, items)
@@ -100,41 +92,13 @@ fn made_by(
     })
 }
 
-/// Adds the start symbols of the public rules among the items, and answers them.
-fn start(
-    state: &mut RuleState,
-    prefix: &str,
-    types: &Types,
-    items: &[GrammarItem],
-) -> NormResult<StartSymbols>
-    ensures refuses { Refuses result
-        (made_starts_faults prefix.now (type_table types.now) state.old.number (public_rules_in (rules_in items.now))) }
-    ensures table { OnOk result (state_nonterminals state.new
-        ≡ sorted_onto (state_nonterminals state.old)
-        (start_rows prefix.now state.old.number (public_rules_in (rules_in items.now)))) }
-    ensures count { OnOk result (state.new.number ≡ state.old.number + length (public_rules_in (rules_in items.now))) }
-    ensures names { IfOk result
-        (λ s. s.names.entries ≡ sorted_onto [] (start_names prefix.now (public_rules_in (rules_in items.now)))) }
-    ensures types { IfOk result
-        (λ s. map typed_row s.types.items ≡ start_types prefix.now (type_table types.now) (public_rules_in (rules_in items.now))) }
-{
-    let starts = starts_among(state.alloc, prefix, types, items)?;
-    let typed = typed_starts(state.alloc, types, &starts)?;
-    add_starts(state, &starts)?;
-    let names = start_table(state.alloc, &starts)?;
-    Ok(StartSymbols {
-        names,
-        types: typed,
-    })
-}
-
 /// Adds what is made of the rules among the items, and answers whether `!` occurs in one of them. Each item is dropped once it is
 /// lowered, and its room in the list given back in time, so what is made of the later ones finds room there.
 #[tactic(auto, using(crate::proofs::LoopLemmas::rule_skipped))]
 fn add_rules(
     context: &ActionContext,
     state: &mut RuleState,
-    actions: &mut Vec<ActionFnDefn>,
+    actions: &mut Vec<SharedActionFnDefn>,
     items: Vec<GrammarItem>,
 ) -> NormResult<bool>
     requires types { AreTypesFrom context.now.types.now 0 (rules_in items.items) }
@@ -142,7 +106,7 @@ fn add_rules(
     ensures refuses { Refuses result (made_rules_faults state.old.number (rules_in items.items)) }
     ensures table { OnOk result (state_nonterminals state.new
         ≡ sorted_onto (state_nonterminals state.old) (rule_rows state.old.number (rules_in items.items))) }
-    ensures adds { OnOk result (map action_defn_view actions.new.items ≡ map action_defn_view actions.old.items
+    ensures adds { OnOk result (map shared_action_view actions.new.items ≡ map shared_action_view actions.old.items
         ++ made_actions context.now.prefix.now (context_types context.now) (rules_in items.items)) }
     ensures recovers { IfOk result (λ b. b ≡ uses_recovery (rules_in items.items)) }
 {
@@ -168,7 +132,7 @@ fn add_rule(
     number: usize,
     rule: NonterminalData,
     state: &mut RuleState,
-    actions: &mut Vec<ActionFnDefn>,
+    actions: &mut Vec<SharedActionFnDefn>,
     names: &mut Vec<Atom>,
 ) -> NormResult<()>
     requires ty { IsTypeAt context.now.types.now number rule.name }
@@ -177,7 +141,7 @@ fn add_rule(
     ensures table { OnOk result (state_nonterminals state.new
         ≡ with_entry (state_nonterminals state.old) (rule.name, rule_entry state.old.number (rule_view rule))) }
     ensures count { OnOk result (state.new.number ≡ state.old.number + length (rule_view rule).alternatives) }
-    ensures adds { OnOk result (map action_defn_view actions.new.items ≡ map action_defn_view actions.old.items
+    ensures adds { OnOk result (map shared_action_view actions.new.items ≡ map shared_action_view actions.old.items
         ++ map (action_by context.now (rule_type (context_types context.now) (rule_view rule))) (rule_view rule).alternatives) }
     ensures numbers { OnOk result (vec_len actions.new ≡ state.new.number) }
 {

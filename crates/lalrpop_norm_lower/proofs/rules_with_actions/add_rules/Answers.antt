@@ -3,9 +3,9 @@ use Rattle.std.proofs.lemmas.Grind.{common_steps}
 use Rattle.std.proofs.lemmas.List.{append_assoc}
 use Rattle.lalrpop_norm_faults.proofs.FaultLemmas.{exit_at}
 use Rattle.lalrpop_norm_tree.specs.Items.{rule_view, item_view}
-use Rattle.lalrpop_norm_repr.specs.Actions.{action_defn_view}
 use Rattle.lalrpop_norm_repr.specs.Productions.{nonterminal_data_view}
 use Rattle.lalrpop_norm_repr.specs.Tables.{rows}
+use Rattle.lalrpop_norm_shared_types.specs.Actions.{shared_action_view}
 use Rattle.lalrpop_norm_lower.specs.ActionContexts.{context_types, action_by}
 use Rattle.lalrpop_norm_lower.specs.Lowering.{rule_type, rule_rows, rules_among, sorted_onto}
 use Rattle.lalrpop_norm_lower.specs.Made.{alternatives_faults, made_rules_faults, made_actions}
@@ -43,7 +43,7 @@ loop-left-preserved-in-Ok c =
     let left = rules_among (map item_view (reverse c.next_item.new.left.items)) in
     let next = rules_left (goal.at.loop-left-preserved-in-Ok c).In-Ok in
     let ensures = c.in_ok-add_rule.ensures in
-    let before = map action_defn_view c.loop-left.actions.items in
+    let before = map shared_action_view c.loop-left.actions.items in
     let made = map (action_by context (rule_type (context_types context) here)) here.alternatives in
     let rest = made_actions context.prefix.now (context_types context) left in (
       ap (λ n. made_rules_faults n left) ensures.count ∙ behind_none (alternatives_faults k here.alternatives) _ _ ensures.refuses (ap (made_rules_faults k) (sym next) ∙ invariant.0),

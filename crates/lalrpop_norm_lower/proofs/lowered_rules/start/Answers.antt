@@ -1,13 +1,12 @@
-use Rattle.std.proofs.Common.{◌∙◌, [], ap, sym, subst, map, append-nil}
+use Rattle.std.proofs.Common.{◌∙◌, [], ap, sym, map, append-nil}
 use Rattle.lalrpop_norm_faults.proofs.FaultLemmas.{exit_at}
 use Rattle.lalrpop_norm_shared_types.specs.Table.{shared_table}
 use Rattle.lalrpop_norm_lower.specs.Lowering.{public_rules_in, sorted_onto}
 use Rattle.lalrpop_norm_lower.specs.Made.{made_starts_faults}
 use Rattle.lalrpop_norm_lower.specs.Starts.{start_typed, faults_of_starts}
-use Rattle.lalrpop_norm_lower.specs.StartTypes.{AddsTypes}
 use Rattle.lalrpop_norm_lower.specs.State.{state_nonterminals, rules_in}
 use Rattle.lalrpop_norm_lower.proofs.StartLemmas.{faults_counted, rows_counted, types_counted}
-use Rattle.lalrpop_norm_lower.proofs.lowered_rules.start_shared.Goals as goal
+use Rattle.lalrpop_norm_lower.proofs.lowered_rules.start.Goals as goal
 
 pub returns-in_err-add_starts-clause-refuses : goal.returns-in_err-add_starts-clause-refuses
 returns-in_err-add_starts-clause-refuses c =
@@ -34,7 +33,5 @@ returns-clause-table c =
 pub returns-clause-types : goal.returns-clause-types
 returns-clause-types c =
     let types = shared_table c.args.types.now in
-    subst (AddsTypes types (shared_table c.add_shared_start_types.new.types))
-    (c.in_ok-typed.ensures ∙ ap (map (start_typed types)) c.deref.ensures.value
-    ∙ types_counted (public_rules_in (rules_in c.args.items.now)) c.in_ok-starts.starts.items c.in_ok-starts.ensures.rules c.args.prefix.now types c.in_ok-starts.ensures.names)
-    c.in_ok-add_shared_start_types.ensures
+    c.in_ok-typed.ensures ∙ ap (map (start_typed types)) c.deref.ensures.value
+    ∙ types_counted (public_rules_in (rules_in c.args.items.now)) c.in_ok-starts.starts.items c.in_ok-starts.ensures.rules c.args.prefix.now types c.in_ok-starts.ensures.names
