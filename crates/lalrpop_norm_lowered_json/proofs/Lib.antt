@@ -10,6 +10,7 @@ pub mod PatternBack
 pub mod PatternKinds
 pub mod RowsBack
 pub mod TextBack
+pub mod SharedLevels
 pub mod Texts
 pub mod ThreeFirst
 pub mod Views

@@ -10,6 +10,8 @@ mod names;
 mod patterns;
 mod productions;
 mod put;
+mod shared_actions;
+mod shared_types;
 mod tables;
 mod tokens;
 mod types;

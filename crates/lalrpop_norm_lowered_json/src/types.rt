@@ -68,7 +68,11 @@ pub(crate) fn put_type(out: &mut Writer, ty: &TypeRepr) -> Result<(), AllocError
 }
 
 /// The variant `Associated`.
-fn put_associated(out: &mut Writer, type_parameter: &Atom, id: &Atom) -> Result<(), AllocError>
+pub(crate) fn put_associated(
+    out: &mut Writer,
+    type_parameter: &Atom,
+    id: &Atom,
+) -> Result<(), AllocError>
     ensures { Puts result out.old out.new (variant (codes "Associated")
         (fields ((codes "id", string id.now) ∷ (codes "type_parameter", string type_parameter.now) ∷ []))) }
 {
