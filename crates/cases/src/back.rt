@@ -6,14 +6,16 @@ use lalrpop_norm::explain::{ExplainError, Traced, WrittenTree, explain, explain_
 use lalrpop_norm::lexer::CheckOnly;
 use lalrpop_norm::normalize::{NormFailure, Session, normalize_traced};
 use lalrpop_norm_json::{TreeError, read_tree};
-use lalrpop_norm_repr::grammar::repr::{NonterminalData, NonterminalString};
+use lalrpop_norm_lowered_json::whole::traced_json;
+use lalrpop_norm_repr::grammar::repr::NonterminalString;
 use lexplain_lines::lines::{lowered_lines, written_lines};
 use lexplain_lines::read::{LinesError, lowered_tree_of_lines};
 use lexplain_run::answer::{Stop, answer};
 use lexplain_run::report::report_stop;
 use lexplain_run::words::{Asked, Way};
-use lnorm_run::lines::push_origin;
+use lnorm_run::lines::{grammar_lines, push_origin};
 use std::alloc::Global;
+use std::str::Lines;
 
 /// A call of the way back.
 #[derive(Clone, Copy)]
@@ -150,13 +152,31 @@ fn push_report(alloc: Global, text: &mut Text, stop: Stop) {
     }
 }
 
-/// The nonterminals of a traced grammar, and whether trees may begin at each; under it its productions, each with its origin, and
-/// what the lookup answers for the index behind the last one.
+/// The nonterminals of a traced grammar, and whether trees may begin at each; under it its productions as lines show them, each with
+/// its origin, and what the lookup answers for the index behind the last one.
 pub(crate) fn push_traced(alloc: Global, text: &mut Text, traced: &Traced) {
+    // The JSON is made but not printed: a proof says what is in it, and not that memory suffices.
+    match (
+        grammar_lines(alloc, traced.grammar(), None),
+        traced_json(alloc, traced),
+    ) {
+        (Ok(lines), Ok(_)) => push_nonterminals(alloc, text, traced, &mut lines.lines()),
+        _ => text.is_whole = false,
+    }
+}
+
+fn push_nonterminals(alloc: Global, text: &mut Text, traced: &Traced, lines: &mut Lines<'_>) {
     for (name, nonterminal) in &traced.grammar().nonterminals {
         text.show(name);
         text.show_line(", a written rule: ", traced.is_rule(name));
-        push_productions(alloc, text, traced, name, nonterminal);
+        push_productions(
+            alloc,
+            text,
+            traced,
+            name,
+            nonterminal.productions.len(),
+            lines,
+        );
     }
 }
 
@@ -165,18 +185,18 @@ fn push_productions(
     text: &mut Text,
     traced: &Traced,
     name: &NonterminalString,
-    nonterminal: &NonterminalData,
+    count: usize,
+    lines: &mut Lines<'_>,
 ) {
-    for (place, production) in nonterminal.productions.iter().enumerate() {
-        text.debug_after("    ", production);
-        text.put(" ");
+    for place in 0..count {
+        text.show_between("    ", lines.next().unwrap_or("no line"), " ");
         match traced.origin(name, place) {
             Some(origin) => put_apart(alloc, text, |text| push_origin(text, origin)),
             None => text.put("from nowhere"),
         }
         text.end_line();
     }
-    if traced.origin(name, nonterminal.productions.len()).is_some() {
+    if traced.origin(name, count).is_some() {
         text.put("    one more\n");
     }
 }

@@ -1,6 +1,9 @@
 //! The whole way from a written grammar to its lowered one, and the passes that can be used by themselves.
 
-pub use crate::passes::{normalize, normalize_rules, normalize_traced};
+pub use crate::passes::{
+    normalize, normalize_rules, normalize_shared, normalize_shared_traced, normalize_traced,
+};
+pub use crate::traced::SharedTraced;
 pub use lalrpop_norm_common::{Session, norm_util};
 pub use lalrpop_norm_faults::{FaultKind, NormError, NormFailure, NormResult};
 pub use lalrpop_norm_is_expanded::is_expanded;

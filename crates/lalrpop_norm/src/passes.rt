@@ -8,7 +8,8 @@ ghost use Rattle.lalrpop_norm_repr.specs.Closed.{IsClosed};
 ghost use Rattle.lalrpop_norm_model.specs.Expanded.{IsExpanded};
 ghost use Rattle.lalrpop_norm_model.specs.Features.{Features};
 ghost use Rattle.lalrpop_norm_model.specs.LexerFaults.{StandsAtLexer};
-ghost use Rattle.lalrpop_norm_origins.specs.Origins.{origin_lists};
+ghost use Rattle.lalrpop_norm_shared_types.specs.Grammars.{shared_grammar_view};
+ghost use Rattle.lalrpop_norm_origins.specs.Origins.{origin_lists, origins_view};
 ghost use Rattle.lalrpop_norm_lower.specs.RulesOf.{AreRulesWhere};
 ghost use Rattle.lalrpop_norm_explain.specs.TracedGrammars.{grammar_in, grammar_of, is_root, origins_in};
 ghost use Rattle.lalrpop_norm.specs.Normalize.{plain_findings, late_faults};
@@ -17,22 +18,25 @@ ghost use Rattle.lalrpop_norm.specs.UnderSession.{AreRootsUnder, CallsFitUnder, 
 ghost use Rattle.lalrpop_norm.specs.UnderSession.{StandsUnder, early_faults_under, findings_under, origins_under, plain_lists_under};
 ghost use Rattle.lalrpop_norm.specs.UnderSession.{plain_under, root_names_under};
 
-use crate::traced::{Plain, names_of_written_rules, origins_in_order};
+use crate::traced::{Plain, SharedTraced, names_of_written_rules, origins_in_order};
 use lalrpop_norm_common::Session;
 use lalrpop_norm_explain::{Traced, with_origins};
 use lalrpop_norm_faults::NormResult;
 use lalrpop_norm_lexer::lexer::Lexer;
-use lalrpop_norm_lower::{LoweredRules, lower_numbered, lower_rules};
+use lalrpop_norm_lower::{LoweredRules, lower_rules, lower_shared};
 use lalrpop_norm_macro_expand::expand_resolved_traced;
 use lalrpop_norm_macro_expand::macro_expand::expand_resolved;
 use lalrpop_norm_precedence::precedence::{expand_precedence, expand_precedence_traced};
 use lalrpop_norm_prevalidate::cond_comp::{remove_disabled_decls, remove_disabled_traced};
 use lalrpop_norm_prevalidate::prevalidate::validate;
 use lalrpop_norm_repr::grammar::repr;
+use lalrpop_norm_shared_types::grammar::SharedGrammar;
 use lalrpop_norm_token_check::token_check;
 use lalrpop_norm_tree::grammar::parse_tree;
-use lalrpop_norm_tyinfer::tyinfer::{infer_shared_types, infer_types_numbered};
+use lalrpop_norm_tree::grammar::parse_tree::NonterminalString;
+use lalrpop_norm_tyinfer::tyinfer::{infer_shared_types, infer_shared_types_numbered};
 use std::alloc::Global;
+use std::collections::BTreeSet;
 
 /// Normalizes a written grammar: the lowered grammar with its numbered productions, action functions, terminals and
 /// types. The grammar is consumed, also where it is rejected. The session says which features are on, how many rounds of
@@ -51,6 +55,23 @@ pub fn normalize<L: Lexer>(
         (findings_under session.now grammar) }
     ensures closed { IfOk result (λ l. IsClosed (lowered_grammar_view l)) }
     ensures faithful { IfOk result (λ l. IsFaithfulUnder session.now grammar (L.relations session.now.lexer) (lowered_grammar_view l)) }
+{
+    let lowered = normalize_shared(alloc, session, grammar)?;
+    Ok(lowered.into_repr(alloc)?)
+}
+
+/// Normalizes as [`normalize`] does, and answers the lowered grammar with types that share their parts: none is copied.
+///
+/// Errors: those of `normalize`.
+pub fn normalize_shared<L: Lexer>(
+    alloc: Global,
+    session: &Session<L>,
+    grammar: parse_tree::Grammar,
+) -> NormResult<SharedGrammar>
+    ensures refuses { RefusesAmong (StandsUnder session.now grammar (L.relations session.now.lexer)) result
+        (findings_under session.now grammar) }
+    ensures closed { IfOk result (λ l. IsClosed (shared_grammar_view l)) }
+    ensures faithful { IfOk result (λ l. IsFaithfulUnder session.now grammar (L.relations session.now.lexer) (shared_grammar_view l)) }
 {
     let plain = expand(alloc, session, grammar)?;
     check_and_lower(alloc, session, plain)
@@ -97,6 +118,49 @@ pub fn normalize_traced<L: Lexer>(
     // `explain_at` reads a derivation tree of any nonterminal as the corresponding tree of the symbol that is meant there.
     ensures anywhere { IfOk result (λ t. FitsAnywhereUnder session.now grammar (grammar_of t)) }
 {
+    let (traced, rules) = lower_traced(alloc, session, grammar)?;
+    let SharedTraced {
+        grammar: shared,
+        origins,
+    } = traced;
+    let lowered = shared.into_repr(alloc)?;
+    Ok(with_origins(lowered, origins, rules))
+}
+
+/// Normalizes as [`normalize_shared`] does, and answers the origins of the actions too, by their numbers.
+///
+/// Errors: those of `normalize`.
+pub fn normalize_shared_traced<L: Lexer>(
+    alloc: Global,
+    session: &Session<L>,
+    grammar: parse_tree::Grammar,
+) -> NormResult<SharedTraced>
+    ensures refuses { RefusesAmong (StandsUnder session.now grammar (L.relations session.now.lexer)) result
+        (findings_under session.now grammar) }
+    ensures closed { IfOk result (λ t. IsClosed (shared_grammar_view t.grammar)) }
+    ensures faithful { IfOk result (λ t. IsFaithfulUnder session.now grammar (L.relations session.now.lexer)
+        (shared_grammar_view t.grammar)) }
+    // Each action has the origin by which the trees are faithful.
+    ensures origins { IfOk result (λ t. origins_view t.origins.items ≡ origins_under session.now grammar) }
+{
+    let (traced, _rules) = lower_traced(alloc, session, grammar)?;
+    Ok(traced)
+}
+
+/// The lowered grammar with the origins of its actions, and the names at which trees may begin.
+fn lower_traced<L: Lexer>(
+    alloc: Global,
+    session: &Session<L>,
+    grammar: parse_tree::Grammar,
+) -> NormResult<(SharedTraced, BTreeSet<NonterminalString>)>
+    ensures refuses { RefusesAmong (StandsUnder session.now grammar (L.relations session.now.lexer)) result
+        (findings_under session.now grammar) }
+    ensures closed { IfOk result (λ p. IsClosed (shared_grammar_view p.0.grammar)) }
+    ensures faithful { IfOk result (λ p. IsFaithfulUnder session.now grammar (L.relations session.now.lexer)
+        (shared_grammar_view p.0.grammar)) }
+    ensures origins { IfOk result (λ p. origins_view p.0.origins.items ≡ origins_under session.now grammar) }
+    ensures rules { IfOk result (λ p. p.1.keys ≡ root_names_under session.now grammar) }
+{
     let plain = expand_traced(alloc, session, grammar)?;
     let Plain {
         grammar: expanded,
@@ -105,7 +169,11 @@ pub fn normalize_traced<L: Lexer>(
     } = plain;
     let origins = origins_in_order(alloc, &expanded.items, kept)?;
     let lowered = check_and_lower(alloc, session, expanded)?;
-    Ok(with_origins(lowered, origins, rules))
+    let traced = SharedTraced {
+        grammar: lowered,
+        origins,
+    };
+    Ok((traced, rules))
 }
 
 /// The expanded grammar.
@@ -158,12 +226,12 @@ fn check_and_lower<L: Lexer>(
     alloc: Global,
     session: &Session<L>,
     plain: parse_tree::Grammar,
-) -> NormResult<repr::Grammar>
+) -> NormResult<SharedGrammar>
     requires plain { IsPlain (features_view session.now.features) (grammar_view plain) }
     ensures refuses { RefusesAmong (StandsAtLexer (L.relations session.now.lexer) (grammar_view plain)) result
         (plain_findings (grammar_view plain)) }
     ensures lowered { IfOk result (λ l. IsCheckedLowering (L.relations session.now.lexer) (features_view session.now.features)
-        (grammar_view plain) (lowered_grammar_view l)) }
+        (grammar_view plain) (shared_grammar_view l)) }
 {
     let checked = token_check::validate(alloc, &session.lexer, plain)?;
     // From here on each terminal that is used has an entry or a conversion (law `plain_grammars_are_typed`).
@@ -175,16 +243,16 @@ fn type_and_lower<L>(
     alloc: Global,
     session: &Session<L>,
     plain: parse_tree::Grammar,
-) -> NormResult<repr::Grammar>
+) -> NormResult<SharedGrammar>
     requires expanded { IsExpanded (grammar_view plain) }
     requires typed { IsTypedByInference (features_view session.now.features) (grammar_view plain) }
     ensures refuses { Refuses result (late_faults (grammar_view plain)) }
     ensures lowered { IfOk result (λ l. IsTypedLowering (features_view session.now.features)
-        (grammar_view plain) (lowered_grammar_view l)) }
+        (grammar_view plain) (shared_grammar_view l)) }
 {
-    let (types, names) = infer_types_numbered(alloc, &plain)?;
-    // From here on each nonterminal has one type (`infer_types_numbered.inferred`; law `inferred_types_are_total`).
-    lower_numbered(alloc, session, plain, types, names)
+    let (types, names) = infer_shared_types_numbered(alloc, &plain)?;
+    // From here on each nonterminal has one type (`infer_shared_types_numbered.inferred`; law `inferred_types_are_total`).
+    lower_shared(alloc, session, plain, types, names)
 }
 
 /// As `check_and_lower`, for the nonterminals, the start symbols and the types alone.

@@ -1,4 +1,4 @@
-//! What is kept beside a grammar for the way back.
+//! What is kept beside a grammar: the origins of its alternatives or actions, and the names at which trees may begin.
 ghost use Rattle.std.specs.Prelude.{◌≡◌, [], ◌∷◌, ◌++◌, IfOk, OnOk, map, flat_map};
 ghost use Rattle.lalrpop_norm_tree.specs.Items.{item_view};
 ghost use Rattle.lalrpop_norm_origins.specs.Origins.{origins_view, origin_lists};
@@ -6,6 +6,7 @@ ghost use Rattle.lalrpop_norm_origins.specs.MadeOrigins.{in_one_list};
 ghost use Rattle.lalrpop_norm.specs.Roots.{plain_names, start_origins, with_rule_names};
 
 use lalrpop_norm_origins::Origin;
+use lalrpop_norm_shared_types::grammar::SharedGrammar;
 use lalrpop_norm_tree::grammar::parse_tree::{Grammar, GrammarItem, NoMemory, NonterminalString};
 use std::alloc::Global;
 use std::collections::BTreeSet;
@@ -18,6 +19,15 @@ pub(crate) struct Plain {
     pub(crate) origins: Vec<Vec<Origin>>,
     /// The names of the enabled rules that are no macros, as they were written.
     pub(crate) rules: BTreeSet<NonterminalString>,
+}
+
+/// A lowered grammar, where types share their parts, with the origins of its actions.
+#[derive(Drop)]
+pub struct SharedTraced {
+    /// The lowered grammar.
+    pub grammar: SharedGrammar,
+    /// The origin of each action, by the actions' numbers.
+    pub origins: Vec<Origin>,
 }
 
 /// The names of the written rules that are no macros.

@@ -8,7 +8,9 @@ ghost use Rattle.lnorm_run.specs.Settings.{Settings, settings_view};
 
 use crate::printing::{Afterwards, Form, Printing, json_of, lines_of, traced_text_of};
 use crate::words::Asked;
-use lalrpop_norm::normalize::{NormFailure, normalize, normalize_rules, normalize_traced};
+use lalrpop_norm::normalize::{
+    NormFailure, normalize_rules, normalize_shared, normalize_shared_traced,
+};
 use lalrpop_norm_json::{TreeError, read_tree};
 use lalrpop_norm_tree::grammar::parse_tree::Grammar;
 use lnorm_streams::halt::Halt;
@@ -100,7 +102,7 @@ fn json_text(
     ensures ok { IfOk result (λ text. IsTextIn Json (settings_view asked.now) (grammar_view tree) text.items) }
     ensures err { IfErr result (Tells (settings_view asked.now) (grammar_view tree)) }
 {
-    match normalize(alloc, &asked.session, tree) {
+    match normalize_shared(alloc, &asked.session, tree) {
         Ok(lowered) => {
             let text = json_of(alloc, &lowered);
             put_away(lowered, afterwards);
@@ -121,7 +123,7 @@ fn traced_text(
     ensures ok { IfOk result (λ text. IsTextIn printing.form (settings_view asked.now) (grammar_view tree) text.items) }
     ensures err { IfErr result (Tells (settings_view asked.now) (grammar_view tree)) }
 {
-    match normalize_traced(alloc, &asked.session, tree) {
+    match normalize_shared_traced(alloc, &asked.session, tree) {
         Ok(traced) => {
             let text = traced_text_of(alloc, printing.form, &traced);
             put_away(traced, printing.afterwards);

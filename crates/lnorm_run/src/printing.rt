@@ -1,18 +1,18 @@
 //! What is printed of a lowered grammar.
 ghost use Rattle.std.specs.Prelude.{◌≡◌, ◌++◌, Some, None, IfOk, IfErr, codes};
 ghost use Rattle.lalrpop_norm_faults.specs.declared.failure.NormFailure.TheVariants.{Memory};
-ghost use Rattle.lalrpop_norm_repr.specs.Lowered.{LoweredGrammar, lowered_grammar_view as lowered_view};
+ghost use Rattle.lalrpop_norm_origins.specs.Origins.{origins_view};
+ghost use Rattle.lalrpop_norm_repr.specs.Lowered.{LoweredGrammar};
+ghost use Rattle.lalrpop_norm_shared_types.specs.Grammars.{shared_grammar_view};
 ghost use Rattle.lalrpop_norm_lower.specs.RulesOf.{AreRulesOf};
-ghost use Rattle.lalrpop_norm_explain.specs.TracedGrammars.{grammar_in, origins_in};
 ghost use Rattle.lnorm_streams.specs.declared.halt.Halt.TheVariants.{Failed};
 ghost use Rattle.lnorm_run.specs.Answers.{printed_as};
 ghost use Rattle.lnorm_run.specs.declared.printing.Form.TheVariants.{Lines, Json};
 
 use crate::lines::{lines, traced_lines};
-use lalrpop_norm::explain::Traced;
-use lalrpop_norm::grammar::repr::Grammar;
-use lalrpop_norm::normalize::{LoweredRules, NormFailure};
-use lalrpop_norm_lowered_json::whole::{grammar_json, traced_json};
+use lalrpop_norm::grammar::shared::SharedGrammar;
+use lalrpop_norm::normalize::{LoweredRules, NormFailure, SharedTraced};
+use lalrpop_norm_lowered_json::whole::shared_json;
 use lnorm_streams::halt::{Halt, Program};
 use std::alloc::{AllocError, Global};
 
@@ -54,16 +54,21 @@ pub(crate) fn lines_of(alloc: Global, rules: &LoweredRules) -> Result<Vec<u8>, H
 }
 
 /// The JSON of a lowered grammar. The only error is a failed allocation.
-pub(crate) fn json_of(alloc: Global, lowered: &Grammar) -> Result<Vec<u8>, Halt>
-    ensures ok { IfOk result (λ text. text.items ≡ printed_as Json None (lowered_view lowered.now)) }
+pub(crate) fn json_of(alloc: Global, lowered: &SharedGrammar) -> Result<Vec<u8>, Halt>
+    ensures ok { IfOk result (λ text. text.items ≡ printed_as Json None (shared_grammar_view lowered.now)) }
     ensures err { IfErr result (λ h. h ≡ Failed Memory) }
 {
     made(json_made(alloc, lowered))
 }
 
 /// The text of a lowered grammar with its origins. The only error is a failed allocation.
-pub(crate) fn traced_text_of(alloc: Global, form: Form, traced: &Traced) -> Result<Vec<u8>, Halt>
-    ensures ok { IfOk result (λ text. text.items ≡ printed_as form (Some (origins_in traced.now)) (grammar_in traced.now)) }
+pub(crate) fn traced_text_of(
+    alloc: Global,
+    form: Form,
+    traced: &SharedTraced,
+) -> Result<Vec<u8>, Halt>
+    ensures ok { IfOk result (λ text. text.items
+        ≡ printed_as form (Some (origins_view traced.now.origins.items)) (shared_grammar_view traced.now.grammar)) }
     ensures err { IfErr result (λ h. h ≡ Failed Memory) }
 {
     made(traced_text_made(alloc, form, traced))
@@ -86,18 +91,23 @@ fn lines_made(alloc: Global, rules: &LoweredRules) -> Result<Vec<u8>, AllocError
     Ok(lines(alloc, rules)?.into_bytes())
 }
 
-fn json_made(alloc: Global, lowered: &Grammar) -> Result<Vec<u8>, AllocError>
-    ensures { IfOk result (λ text. text.items ≡ printed_as Json None (lowered_view lowered.now)) }
+fn json_made(alloc: Global, lowered: &SharedGrammar) -> Result<Vec<u8>, AllocError>
+    ensures { IfOk result (λ text. text.items ≡ printed_as Json None (shared_grammar_view lowered.now)) }
 {
-    as_line(grammar_json(alloc, lowered)?)
+    as_line(shared_json(alloc, lowered, None)?)
 }
 
-fn traced_text_made(alloc: Global, form: Form, traced: &Traced) -> Result<Vec<u8>, AllocError>
-    ensures { IfOk result (λ text. text.items ≡ printed_as form (Some (origins_in traced.now)) (grammar_in traced.now)) }
+fn traced_text_made(alloc: Global, form: Form, traced: &SharedTraced) -> Result<Vec<u8>, AllocError>
+    ensures { IfOk result (λ text. text.items
+        ≡ printed_as form (Some (origins_view traced.now.origins.items)) (shared_grammar_view traced.now.grammar)) }
 {
     match form {
         Form::Lines => Ok(traced_lines(alloc, traced)?.into_bytes()),
-        Form::Json => as_line(traced_json(alloc, traced)?),
+        Form::Json => as_line(shared_json(
+            alloc,
+            &traced.grammar,
+            Some(traced.origins.as_slice()),
+        )?),
     }
 }
 

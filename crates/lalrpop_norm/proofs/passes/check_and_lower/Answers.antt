@@ -1,7 +1,7 @@
 use Rattle.std.proofs.lemmas.Result.{IfOk-weaker}
 use Rattle.lalrpop_norm_tree.specs.Items as written
 use Rattle.lalrpop_norm_common.specs.Sessions.{features_view}
-use Rattle.lalrpop_norm_repr.specs.Lowered as lowered
+use Rattle.lalrpop_norm_shared_types.specs.Grammars.{shared_grammar_view}
 use Rattle.lalrpop_norm.proofs.PassLemmas.{told_exit, is_expanded, is_typed, late_exit, lowered_so}
 use Rattle.lalrpop_norm.proofs.passes.check_and_lower.Goals as goal
 
@@ -27,5 +27,5 @@ pub returns-clause-lowered : goal.returns-clause-lowered
 returns-clause-lowered g c =
     IfOk-weaker c.type_and_lower.result _ _
     (λ l h. lowered_so _ (features_view c.args.session.now.features) (written.grammar_view c.args.plain) c.requires.plain (written.grammar_view c.in_ok-checked.checked)
-    c.in_ok-checked.ensures.refuses c.in_ok-checked.ensures.checked (lowered.lowered_grammar_view l) h)
+    c.in_ok-checked.ensures.refuses c.in_ok-checked.ensures.checked (shared_grammar_view l) h)
     c.type_and_lower.ensures.lowered

@@ -1,7 +1,7 @@
 use Rattle.std.proofs.Common.{◌∙◌, Bool, sym, ap, Some, None, if◌then◌else◌}
 use Rattle.std.proofs.lemmas.Result.{IfOk-weaker}
 use Rattle.lalrpop_norm_tree.specs.Items.{grammar_view}
-use Rattle.lalrpop_norm_repr.specs.Lowered.{lowered_grammar_view as lowered_view}
+use Rattle.lalrpop_norm_shared_types.specs.Grammars.{shared_grammar_view}
 use Rattle.lalrpop_norm.specs.Faithful.{origins_of_actions}
 use Rattle.lnorm_run.specs.Answers.{printed_as}
 use Rattle.lnorm_run.specs.Settings.{settings_view}
@@ -13,7 +13,7 @@ pub returns-in-Ok-clause-ok : goal.returns-in-Ok-clause-ok
 returns-in-Ok-clause-ok c =
     let s = settings_view c.args.asked.now in
     let tree = grammar_view c.args.tree in
-    let lowered = lowered_view c.in-Ok.lowered in
+    let lowered = shared_grammar_view c.in-Ok.lowered in
     IfOk-weaker c.json_of-text.result _ _
     (λ text printed. record {
       lowered = lowered;

@@ -1,7 +1,7 @@
 use Rattle.std.proofs.Common.{◌∙◌, Bool, sym, ap, Some, None, if◌then◌else◌}
 use Rattle.std.proofs.lemmas.Result.{IfOk-weaker}
 use Rattle.lalrpop_norm_tree.specs.Items.{grammar_view}
-use Rattle.lalrpop_norm_explain.specs.TracedGrammars.{grammar_in}
+use Rattle.lalrpop_norm_shared_types.specs.Grammars.{shared_grammar_view}
 use Rattle.lalrpop_norm.specs.Faithful.{origins_of_actions}
 use Rattle.lnorm_run.specs.Answers.{printed_as}
 use Rattle.lnorm_run.specs.Settings.{settings_view}
@@ -12,7 +12,7 @@ pub returns-in-Ok-clause-ok : goal.returns-in-Ok-clause-ok
 returns-in-Ok-clause-ok c =
     let s = settings_view c.args.asked.now in
     let tree = grammar_view c.args.tree in
-    let lowered = grammar_in c.in-Ok.traced in
+    let lowered = shared_grammar_view c.in-Ok.traced.grammar in
     IfOk-weaker c.traced_text_of-text.result _ _
     (λ text printed. record {
       lowered = lowered;
