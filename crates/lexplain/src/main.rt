@@ -9,8 +9,7 @@ use lexplain_run::run::translate;
 use lexplain_run::words::{Asked, asked_for, grammar_asked};
 use lnorm_run::printing::{Afterwards, Form, Printing};
 use lnorm_run::run::run_with;
-use lnorm_run::start::prepared;
-use lnorm_run::words::WordsError;
+use lnorm_run::words::{WordsError, words_of_call};
 use lnorm_streams::halt::{Halt, Program, halt_of_words, report};
 use lnorm_streams::source::Source;
 use std::fs;
@@ -24,7 +23,7 @@ const PRINTING: Printing = Printing {
 };
 
 fn main(rt: HostRuntime) -> ExitCode {
-    let status = match prepared(&rt) {
+    let status = match words_of_call(&rt) {
         Ok(words) => answered(&rt, &words),
         Err(error) => halted(&rt, halt_of_words(&error)),
     };

@@ -5,7 +5,7 @@ ghost use Rattle.std.specs.Prelude.{◌≤◌};
 
 use lnorm_run::printing::{Afterwards, Form, Printing};
 use lnorm_run::run::run_with;
-use lnorm_run::start::prepared;
+use lnorm_run::words::words_of_call;
 use lnorm_streams::halt::{Program, halt_of_words, report};
 use std::process::ExitCode;
 
@@ -24,7 +24,7 @@ fn status(rt: &HostRuntime) -> u8
     ensures { result ≤ 4 }
 {
     let alloc = rt.alloc();
-    match prepared(rt) {
+    match words_of_call(rt) {
         Ok(words) => run_with(
             alloc,
             &words,
