@@ -42,7 +42,7 @@ pub fn push<T: Drop>(list: &mut Vec<T>, item: T) -> Result<(), ReadError>
     push_onto(list, item, 1)
 }
 
-/// One more item; where it is the first, the list takes room for so many. A full list of 64 to 65,535 items grows eightfold, so that
+/// One more item; where it is the first, the list takes room for so many. A full list of 64 to 4,095 items grows eightfold, so that
 /// they are moved seldom; room that is not written to takes no memory.
 pub(crate) fn push_onto<T: Drop>(list: &mut Vec<T>, item: T, room: usize) -> Result<(), ReadError>
     ensures ok { OnOk result (list.new.items ≡ list.old.items ++ item ∷ []) }

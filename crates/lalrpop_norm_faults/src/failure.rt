@@ -23,7 +23,8 @@ pub struct NormError {
 pub enum NormFailure {
     /// The grammar has this fault.
     Refused(NormError),
-    /// Out of memory: an allocation failed, for the answer or for the message of a fault.
+    /// Out of memory: an allocation failed, for the answer or for the message of a fault; or a pattern is past the size limit of
+    /// `regex`.
     Memory,
 }
 

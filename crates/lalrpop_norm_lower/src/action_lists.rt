@@ -156,7 +156,7 @@ pub(crate) fn add_rule(
     add_alternatives(context, &ty, &rule.alternatives, actions, names)
 }
 
-/// The type of the rule of that number. Each rule of a plain grammar has one; where there is none, it is the unit type.
+/// The type of the rule of that number. Each rule of an expanded grammar has one; where there is none, it is the unit type.
 fn rule_type(context: &ActionContext, number: usize) -> Result<SharedType, NoMemory>
     requires { number < vec_len context.now.types.now.by_number }
     ensures { IfOk result (λ t. (r : RuleData) → IsTypeAt context.now.types.now number r.name

@@ -42,7 +42,7 @@ fn type_of_symbol(
     type_or_unit(alloc, types, &lowered)
 }
 
-/// The type of a symbol of a production. Each symbol of a plain grammar has one.
+/// The type of a symbol of a production. Each symbol of an expanded grammar has one.
 fn type_or_unit(
     alloc: Global,
     types: &NumberedTypes,

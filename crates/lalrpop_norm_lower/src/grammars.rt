@@ -46,7 +46,7 @@ use std::mem;
 
 /// Lowers an expanded grammar over the types of its rules: `types` has one for each rule. The terminals of the active
 /// conversions, or of the tokenizer's entries, are distinct, and each terminal that is used is one of them. The grammar and the
-/// types are consumed, also where the answer is an error.
+/// types are consumed, also where the answer is an error. `is_expanded` and `is_typed` test what is asked of them.
 ///
 /// Action k, from 0, is that of the k-th of the start symbols of public rules, then of the alternatives in item order. Terminals
 /// are numbered from 0 in the order of the active conversions, or of the tokenizer's entries without its skips, the error
@@ -199,8 +199,8 @@ fn lowered_of(
     })
 }
 
-/// As [`lower`], but for all else than the nonterminals with their productions, the start symbols, and the types: they are made
-/// without their actions, over types that share their parts.
+/// Lowers as [`lower`] does, and answers the nonterminals with their productions, the start symbols and the types alone: no
+/// action is made. Types share their parts.
 ///
 /// Errors: those of [`lower`].
 pub fn lower_rules(

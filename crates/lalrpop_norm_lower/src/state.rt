@@ -1,9 +1,9 @@
-//! What was made of rules so far.
+//! What was made of the rules that were lowered.
 use lalrpop_norm_repr::grammar::repr::{NonterminalData, NonterminalString};
 use std::alloc::Global;
 use std::collections::BTreeMap;
 
-/// The nonterminals that were made of rules so far, and the number of the next action: how many alternatives they have.
+/// The nonterminals that were made of rules, and the number of the next action: how many alternatives they have.
 #[derive(Drop)]
 pub(crate) struct RuleState {
     pub(crate) alloc: Global,

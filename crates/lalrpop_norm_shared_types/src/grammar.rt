@@ -15,7 +15,8 @@ use std::collections::BTreeMap;
 
 /// A lowered grammar, where the types of actions and of nonterminals share their parts.
 pub struct SharedGrammar {
-    /// All but its actions and the types of its nonterminals: what stands there in their places counts for nothing.
+    /// All but its actions and the types of its nonterminals: what stands there in their places counts for nothing. So ask it for
+    /// no action (`action_is_fallible`) and for no nonterminal's type (`types`).
     pub rest: Grammar,
     /// The actions, in the order of their numbers.
     pub action_fn_defns: Vec<SharedActionFnDefn>,

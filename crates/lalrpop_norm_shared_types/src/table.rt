@@ -35,7 +35,8 @@ impl Drop for SharedTypes {
 }
 
 impl SharedTypes {
-    /// The table of those rows of nonterminals, and of all other types of `rest`. The only error is a failed allocation.
+    /// The table of those rows of nonterminals, whose names are distinct, and of all other types of `rest`. The only error is a
+    /// failed allocation.
     pub fn of_rows(
         alloc: Global,
         rest: Types,
@@ -55,15 +56,14 @@ impl SharedTypes {
         Ok(SharedTypes { rest, nonterminals })
     }
 
-    /// That table, where the types of nonterminals share their parts. The only error is a failed allocation.
+    /// That table, each type of a nonterminal made anew as one whose copies share it. The only error is a failed allocation.
     pub fn of(alloc: Global, types: Types) -> Result<SharedTypes, NoMemory>
         ensures { IfOk result (λ t. shared_table t ≡ type_table types) }
     {
-        let nonterminals = shared_rows_of(alloc, types.nonterminals())?;
-        Ok(SharedTypes {
-            rest: types,
-            nonterminals,
-        })
+        let mut rest = types;
+        let nonterminals = shared_rows_of(alloc, rest.nonterminals())?;
+        rest.set_nonterminals(BTreeMap::new(alloc));
+        Ok(SharedTypes { rest, nonterminals })
     }
 
     /// The table with whole copies of the types of nonterminals. The only error is a failed allocation.

@@ -9,7 +9,7 @@ pub enum RegexError {
         /// As the lexer words it.
         message: String,
     },
-    /// An allocation failed.
+    /// An allocation failed, or a pattern is past the size limit of `regex`.
     Memory,
 }
 
@@ -56,7 +56,7 @@ pub enum DfaConstructionError {
         /// The index of the other.
         match1: usize,
     },
-    /// An allocation failed.
+    /// An allocation failed, or a pattern is past the size limit of `regex`.
     Memory,
 }
 

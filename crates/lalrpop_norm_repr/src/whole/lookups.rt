@@ -36,7 +36,7 @@ impl Grammar {
         }
     }
 
-    /// The parameters' names, each with `, ` after it, in new memory.
+    /// The parameters' names, each with `, ` after it. The only error is a failed allocation.
     pub fn user_parameter_refs(&self, alloc: Global) -> Result<String, NoMemory>
         ensures { IfOk result (λ s. string_bytes s ≡ parameter_refs (lowered_grammar_view self.now).parameters) }
     {

@@ -10,7 +10,7 @@ use lalrpop_norm_tree_parts::names::copy::copy_type_parameters;
 use std::alloc::Global;
 
 impl SharedType {
-    /// That lowered type, as one that shares its parts. The only error is a failed allocation.
+    /// A lowered type made anew as one whose copies share it. The only error is a failed allocation.
     #[cycle(share)]
     pub fn of(alloc: Global, ty: &TypeRepr) -> Result<SharedType, NoMemory>
         ensures { IfOk result (λ t. shared_view t ≡ repr_view ty.now) }
