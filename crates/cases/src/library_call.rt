@@ -1,4 +1,4 @@
-//! A call of the library, as README.md shows it.
+//! A call of the library: the example that README.md names.
 use crate::made::put_apart;
 use crate::text::Text;
 use lalrpop_norm::lexer::CheckOnly;

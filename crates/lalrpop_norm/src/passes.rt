@@ -40,7 +40,8 @@ use std::collections::BTreeSet;
 
 /// Normalizes a written grammar: the lowered grammar with its numbered productions, action functions, terminals and
 /// types. The grammar is consumed, also where it is rejected. The session says which features are on, how many rounds of
-/// expansion may make rules, and which lexer makes the tokenizer of a grammar without an extern enum.
+/// expansion may make rules, and which lexer makes the tokenizer of a grammar without an extern enum. A type is copied at each use,
+/// so N uses of a type of N parts take memory in the square of N; [`normalize_shared`] copies none.
 ///
 /// Errors: the first fault in the order of the passes, at its span (docs/use/FAULTS.md lists them), where an error of the lexer
 /// (F42 to F44) is reported only if the lexer finds it; `Memory`.
@@ -127,7 +128,8 @@ pub fn normalize_traced<L: Lexer>(
     Ok(with_origins(lowered, origins, rules))
 }
 
-/// Normalizes as [`normalize_shared`] does, and answers the origins of the actions too, by their numbers.
+/// Normalizes as [`normalize_shared`] does, and answers the origins of the actions too, by their numbers. The names at which trees
+/// may begin are left out: for the way back there is [`normalize_traced`].
 ///
 /// Errors: those of `normalize`.
 pub fn normalize_shared_traced<L: Lexer>(

@@ -1,4 +1,4 @@
-//! Plain rules, which are those of an expanded grammar (no macros, no repeats), and their names.
+//! The rules of an expanded grammar (no macros, no repeats), and their names.
 ghost use Rattle.std.specs.Prelude.{◌≡◌, map, option_map};
 ghost use Rattle.std.specs.List.{list_all};
 ghost use Rattle.lalrpop_norm_tree.specs.Items.{alternative_view, item_view, rule_view};

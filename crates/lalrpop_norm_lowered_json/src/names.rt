@@ -1,4 +1,4 @@
-//! Places, names, paths.
+//! Spans, names, paths.
 ghost use Rattle.std.specs.Prelude.{◌≡◌};
 ghost use Rattle.serde_json.specs.Data.{string};
 

@@ -37,7 +37,8 @@ use std::alloc::{AllocError, Global};
 /// The room that is taken at first for a text, in bytes.
 const ROOM: usize = 4096;
 
-/// The text of a lowered grammar, without origins. The only error is a failed allocation.
+/// The JSON of a lowered grammar (docs/use/FORMATS.md), one line without its line feed, without origins. The only error is a failed
+/// allocation.
 pub fn grammar_json(alloc: Global, grammar: &Grammar) -> Result<Vec<u8>, AllocError>
     ensures { IfOk result (λ t. t.items ≡ compact_text (whole_form None (lowered_grammar_view grammar.now))) }
 {
@@ -46,7 +47,7 @@ pub fn grammar_json(alloc: Global, grammar: &Grammar) -> Result<Vec<u8>, AllocEr
     Ok(out.into_inner())
 }
 
-/// The text of a lowered grammar with the origins of its actions. The only error is a failed allocation.
+/// That JSON with the origins of the actions. The only error is a failed allocation.
 pub fn traced_json(alloc: Global, traced: &Traced) -> Result<Vec<u8>, AllocError>
     ensures { IfOk result (λ t. t.items ≡ compact_text (whole_form (Some (origins_in traced.now)) (grammar_in traced.now))) }
 {
@@ -55,8 +56,8 @@ pub fn traced_json(alloc: Global, traced: &Traced) -> Result<Vec<u8>, AllocError
     Ok(out.into_inner())
 }
 
-/// The text of a lowered grammar whose types share their parts, with the origins of its actions if they are given. The only error is
-/// a failed allocation.
+/// That JSON of a lowered grammar whose types share their parts, with the origins of its actions if they are given. The only error
+/// is a failed allocation.
 pub fn shared_json(
     alloc: Global,
     grammar: &SharedGrammar,

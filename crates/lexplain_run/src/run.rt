@@ -39,8 +39,8 @@ pub enum Failure {
 /// readers, and writes the lines that are asked for to `output`.
 ///
 /// The answer is the exit status: 0 all lines were written; 1 the grammar or a tree has a fault, or two trees show no ambiguity;
-/// 2 one of the two inputs is no tree; 3 an allocation failed; 4 a read or a write failed. With each but 0 the line of that status,
-/// or a beginning of it, goes to `faults`.
+/// 2 one of the two inputs is no tree; 3 an allocation failed, or a pattern is past the size limit of `regex`; 4 a read or a write
+/// failed. With each but 0 the line of that status, or a beginning of it, goes to `faults`.
 pub fn translate<G: Source, L: Source, W: Write, E: Write>(
     alloc: Global,
     asked: &Asked,

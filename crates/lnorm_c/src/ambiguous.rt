@@ -16,8 +16,8 @@ use std::alloc::Global;
 /// The lines of the first written tree, those of the second and the line of the path to where they differ are put into `output`.
 ///
 /// The exit status: 0 the output is the lines; 1 the grammar or a tree has a fault, or the trees show no ambiguity; 2 the arguments
-/// are no options, the grammar is no tree of a grammar, or the lines are no two trees; 3 an allocation failed. With each but 0 there
-/// is no output, and `faults` has a line that says why.
+/// are no options, the grammar is no tree of a grammar, or the lines are no two trees; 3 an allocation failed, or a pattern is past
+/// the size limit of `regex`. With each but 0 there is no output, and `faults` has a line that says why.
 ///
 /// The buffers are those of `lnorm_explain`.
 #[unsafe(no_mangle)]

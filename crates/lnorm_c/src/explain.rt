@@ -16,8 +16,8 @@ use std::alloc::Global;
 /// `lines` the derivation tree in lines of JSON. The lines of the other tree are put into `output`.
 ///
 /// The exit status: 0 the output is the lines; 1 the grammar or the tree has a fault; 2 the arguments are no options, the grammar
-/// is no tree of a grammar, or the lines are no tree; 3 an allocation failed. With each but 0 there is no output, and `faults`
-/// has a line that says why.
+/// is no tree of a grammar, or the lines are no tree; 3 an allocation failed, or a pattern is past the size limit of `regex`. With
+/// each but 0 there is no output, and `faults` has a line that says why.
 ///
 /// Of each of the two texts the front is put into its buffer, as much as it takes; the answer has the size of the whole.
 #[unsafe(no_mangle)]

@@ -15,7 +15,8 @@ use std::alloc::Global;
 /// the arguments of the program, in one text, each ended by a zero byte; `input` is the tree.
 ///
 /// The exit status: 0 the output is the lines; 1 the tree has a fault; 2 the arguments are no options, or the input is no tree; 3
-/// an allocation failed. With each but 0 there is no output, and the line of that exit status is in `faults`.
+/// an allocation failed, or a pattern is past the size limit of `regex`. With each but 0 there is no output, and the line of that
+/// exit status is in `faults`.
 ///
 /// Of each of the two texts the front is put into its buffer, as much as it takes; the answer has the size of the whole.
 #[unsafe(no_mangle)]
