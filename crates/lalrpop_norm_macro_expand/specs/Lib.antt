@@ -4,4 +4,5 @@ pub mod Kept
 pub mod Laws
 pub mod Made
 pub mod Making
+pub mod Stays
 pub mod TracedRules

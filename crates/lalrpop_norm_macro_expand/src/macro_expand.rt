@@ -4,6 +4,7 @@
 //! the symbols in it, inner ones before outer ones, and to rewrite each that is desugared to the nonterminal of its text. Symbols
 //! that are equal up to spans are desugared to one rule, where they were first reached.
 ghost use Rattle.std.specs.Prelude.{◌≡◌, ◌==◌, ◌<◌, ◌+◌, ◌++◌, [], true, false, if◌then◌else◌, IfOk, OnOk, map, length, flat_map};
+ghost use Rattle.std.specs.List.{list_all};
 ghost use Rattle.lalrpop_norm_tree.specs.Symbols.{symbol_view};
 ghost use Rattle.lalrpop_norm_tree.specs.Items.{item_view, grammar_view};
 ghost use Rattle.lalrpop_norm_faults.specs.Faults.{Refuses, IsFirst};
@@ -20,16 +21,19 @@ ghost use Rattle.lalrpop_norm_macro_expand.specs.Counts.{AreCounts, IsLastRound}
 ghost use Rattle.lalrpop_norm_macro_expand.specs.Expansion.{past_cap, expansion_faults, macro_faults};
 ghost use Rattle.lalrpop_norm_macro_expand.specs.Made.{made_view, AreMade};
 ghost use Rattle.lalrpop_norm_macro_expand.specs.Making.{placeholder_names, round_generated, round_unmade, round_made};
+ghost use Rattle.lalrpop_norm_macro_expand.specs.Stays.{item_stays};
 
 mod instance;
 mod made_origins;
 mod make;
 mod repeats;
 mod rule_lists;
+mod stays;
 pub(crate) mod traced;
 
 use self::make::{MadeSymbol, Makers, make_rules};
 use self::repeats::numbers_of_placeholder;
+use self::stays::items_stay;
 use lalrpop_norm_faults::{FaultKind, NormFailure, NormResult, refusal};
 use lalrpop_norm_macro_expand_rules::generated::read_generated;
 use lalrpop_norm_macro_expand_rules::items::read_items;
@@ -41,6 +45,7 @@ use lalrpop_norm_nodes::table::{Table, Waiting};
 use lalrpop_norm_resolve::resolve::resolve;
 use lalrpop_norm_tree::grammar::parse_tree::{Grammar, GrammarItem, NoMemory, Symbol};
 use std::alloc::{AllocError, Global};
+use std::collections::HashSet;
 use std::mem;
 
 /// How much an expansion did.
@@ -209,6 +214,54 @@ fn expand_rounds(alloc: Global, grammar: Grammar, limit: u16) -> NormResult<Expa
     }
 }
 
+/// A table in which no symbol was reached, and none will be.
+fn empty_table(alloc: Global) -> Result<Table, NoMemory>
+    ensures table { IfOk result IsNodeTable }
+    ensures counted { IfOk result IsCounted }
+    ensures seen { IfOk result (λ t. seen_in t ≡ []) }
+{
+    let seed = seeded_by(&[]);
+    Table::with_room(alloc, HashSet::with_hasher(alloc, seed), seed, 0)
+}
+
+/// Answers a grammar as it is, all of whose items stay: one round, which reaches nothing.
+fn expanded_as_it_is(alloc: Global, grammar: Grammar, limit: u16) -> NormResult<Expanded>
+    requires { list_all item_stays (map item_view grammar.items.items) ≡ true }
+    ensures refuses { Refuses result (expansion_faults comparison (grammar_view grammar) limit) }
+    ensures whole { IfOk result (λ x. IsEnded comparison (grammar_view grammar) limit) }
+    ensures plain { IfOk result (λ x. grammar_view x.grammar ≡ plain_grammar comparison (grammar_view grammar) limit) }
+    ensures made { IfOk result (λ x. AreMade (wholes_in x.table) (grammar_view grammar) limit x.made.items) }
+    ensures rounds { IfOk result (λ x. IsLastRound comparison (grammar_view grammar) x.rounds) }
+    ensures table { IfOk result (λ x. IsNodeTable x.table) }
+    ensures counted { IfOk result (λ x. IsCounted x.table) }
+    ensures seen { IfOk result (λ x. length (seen_in x.table) ≡ length (made_symbols comparison (grammar_view grammar) limit)) }
+{
+    let table = empty_table(alloc)?;
+    Ok(Expanded {
+        grammar,
+        table,
+        made: Vec::new(alloc),
+        rounds: 1,
+    })
+}
+
+/// Expands a grammar: in rounds, or as it is if all of its items stay, which needs no table.
+fn expand(alloc: Global, grammar: Grammar, limit: u16) -> NormResult<Expanded>
+    ensures refuses { Refuses result (expansion_faults comparison (grammar_view grammar) limit) }
+    ensures whole { IfOk result (λ x. IsEnded comparison (grammar_view grammar) limit) }
+    ensures plain { IfOk result (λ x. grammar_view x.grammar ≡ plain_grammar comparison (grammar_view grammar) limit) }
+    ensures made { IfOk result (λ x. AreMade (wholes_in x.table) (grammar_view grammar) limit x.made.items) }
+    ensures rounds { IfOk result (λ x. IsLastRound comparison (grammar_view grammar) x.rounds) }
+    ensures table { IfOk result (λ x. IsNodeTable x.table) }
+    ensures counted { IfOk result (λ x. IsCounted x.table) }
+    ensures seen { IfOk result (λ x. length (seen_in x.table) ≡ length (made_symbols comparison (grammar_view grammar) limit)) }
+{
+    if items_stay(&grammar.items) {
+        return expanded_as_it_is(alloc, grammar, limit);
+    }
+    expand_rounds(alloc, grammar, limit)
+}
+
 fn counted(expanded: &Expanded) -> Counts
     requires { IsCounted expanded.now.table }
     ensures instances { result.instances ≡ length expanded.now.made.items }
@@ -229,7 +282,7 @@ fn expand_counted(alloc: Global, grammar: Grammar, limit: u16) -> NormResult<(Gr
     ensures plain { IfOk result (λ made. grammar_view made.0 ≡ plain_grammar comparison (grammar_view grammar) limit) }
     ensures counts { IfOk result (λ made. AreCounts comparison (grammar_view grammar) limit made.1) }
 {
-    let expanded = expand_rounds(alloc, grammar, limit)?;
+    let expanded = expand(alloc, grammar, limit)?;
     let counts = counted(&expanded);
     Ok((expanded.grammar, counts))
 }

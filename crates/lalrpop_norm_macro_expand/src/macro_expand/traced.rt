@@ -17,7 +17,7 @@ ghost use Rattle.lalrpop_norm_macro_expand.specs.TracedRules.{list_view, first_l
 
 use super::made_origins::add_all_made;
 use super::rule_lists::{RuleLists, by_name, rule_lists};
-use super::{Expanded, expand_rounds};
+use super::{Expanded, expand};
 use lalrpop_norm_faults::NormResult;
 use lalrpop_norm_origins::Origin;
 use lalrpop_norm_resolve::resolve::resolve;
@@ -65,7 +65,7 @@ pub fn expand_resolved_traced(
     ensures shaped { IfOk result (λ made. IsShaped (grammar_view made.0).items (origin_lists made.1.items)) }
 {
     let lists = rule_lists(alloc, &grammar, origins)?;
-    let expanded = expand_rounds(alloc, grammar, limit)?;
+    let expanded = expand(alloc, grammar, limit)?;
     let plain = plain_lists(alloc, lists, &expanded)?;
     Ok((expanded.grammar, plain))
 }
