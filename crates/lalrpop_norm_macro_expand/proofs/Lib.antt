@@ -8,5 +8,6 @@ mod LoopLemmas
 mod MadeLemmas
 mod MakingLemmas
 mod RoundLemmas
+mod StaysLemmas
 mod TracedLemmas
 mod WaitingLists

@@ -129,7 +129,7 @@ module _ (g : GrammarData) where
   abbrev declared : List ℕ → Bool
   declared = is_declared_name (rule_names g)
 
-  fresh_is : (k : ℕ) → (round k).fresh ≡ fresh_of same_apart_from_spans (round k).seen (meetings comparison g k)
+  pub fresh_is : (k : ℕ) → (round k).fresh ≡ fresh_of same_apart_from_spans (round k).seen (meetings comparison g k)
   fresh_is zero = refl
   fresh_is (suc k) = refl
 
@@ -422,18 +422,18 @@ module _ (g : GrammarData) where
   next_none : (k : ℕ) → (round k).fresh ≡ [] → (round (suc k)).fresh ≡ []
   next_none k e = ap (λ xs. fresh_of same_apart_from_spans ((round k).seen ++ (round k).fresh) (flat_map (met_by_made comparison (macros_of g)) (reverse xs))) e
 
-  fresh_stays : (k n m : ℕ) → m ≡ k + n → (round k).fresh ≡ [] → (round m).fresh ≡ []
+  pub fresh_stays : (k n m : ℕ) → m ≡ k + n → (round k).fresh ≡ [] → (round m).fresh ≡ []
   fresh_stays k zero m e h = let same : m ≡ k = omega arith in ap (λ j. (round j).fresh) same ∙ h
   fresh_stays k (suc n) m e h = fresh_stays (suc k) n m (omega arith) (next_none k h)
 
-  made_stays : (k n m : ℕ) → m ≡ k + n → (round k).fresh ≡ [] → made_symbols comparison g m ≡ made_symbols comparison g k
+  pub made_stays : (k n m : ℕ) → m ≡ k + n → (round k).fresh ≡ [] → made_symbols comparison g m ≡ made_symbols comparison g k
   made_stays k zero m e h = let same : m ≡ k = omega arith in ap (made_symbols comparison g) same
   made_stays k (suc n) m e h =
       made_stays (suc k) n m (omega arith) (next_none k h)
       ∙ ap (λ xs. made_symbols comparison g k ++ reverse xs) h
       ∙ append-nil (made_symbols comparison g k)
 
-  quiet_end : (k left : ℕ) → (round k).fresh ≡ [] → shared_in comparison g k ≡ [] → faults_from comparison g k left ≡ []
+  pub quiet_end : (k left : ℕ) → (round k).fresh ≡ [] → shared_in comparison g k ≡ [] → faults_from comparison g k left ≡ []
   quiet_end k zero h none_shared = ap₂ ◌++◌ none_shared (ap past_cap h)
   quiet_end k (suc left) h none_shared =
       ap₂ ◌++◌ none_shared
