@@ -1,6 +1,6 @@
 -- The faults of symbols, in visiting order.
 use Rattle.std.specs.Prelude.{ℕ, Bool, true, false, List, [], ◌∷◌, ◌++◌, Option, Some, None, bytes_eq, is_some}
-use Rattle.std.specs.Prelude.{option_and_then, option_map, if◌then◌else◌}
+use Rattle.std.specs.Prelude.{option_and_then, option_map, option_to_list, if◌then◌else◌}
 use Rattle.std.specs.Ordering.{is_lt, nat_cmp}
 use Rattle.std.specs.Cmp.Lexicographic.{slice_cmp}
 use Rattle.lalrpop_norm_tree_names.specs.declared.names.Span.{Span}
@@ -52,6 +52,11 @@ abbrev pub named_at : List ℕ → Parts → Option Span
 named_at name no_parts = None
 named_at name (part_and (at s k) ps) = if is_that_name name (name_of k) then Some s else named_at name ps
 
+-- the second symbol of that name
+abbrev pub second_at : List ℕ → Parts → Option Span
+second_at name no_parts = None
+second_at name (part_and (at s k) ps) = if is_that_name name (name_of k) then named_at name ps else second_at name ps
+
 -- a name with its span, if there is one
 abbrev pub placed : (List ℕ → Option Span) → Option (List ℕ) → Option (List ℕ × Span)
 placed place None = None
@@ -66,6 +71,17 @@ abbrev pub lesser_name : Option (List ℕ × Span) → Option (List ℕ × Span)
 lesser_name None r = r
 lesser_name (Some n) None = Some n
 lesser_name (Some n) (Some r) = if is_lt (slice_cmp nat_cmp r.0 n.0) then Some r else Some n
+
+-- the names that symbols have, in the order of the symbols
+abbrev pub symbol_names : Parts → List (List ℕ)
+symbol_names no_parts = []
+symbol_names (part_and (at s k) ps) = option_to_list (name_of k) ++ symbol_names ps
+
+-- the first name that the next one equals
+abbrev pub first_repeated : List (List ℕ) → Option (List ℕ)
+first_repeated [] = None
+first_repeated (n ∷ []) = None
+first_repeated (n ∷ m ∷ ns) = if bytes_eq n m then Some m else first_repeated (m ∷ ns)
 
 -- the least name that two symbols have, with the span of the second of them
 abbrev pub least_twice : Parts → Option (List ℕ × Span)

@@ -1,12 +1,9 @@
 //! Symbols.
-ghost use Rattle.std.specs.Prelude.{◌≡◌, ℕ, List, Some, IfOk, OnOk, option_map, if◌then◌else◌};
-ghost use Rattle.std.specs.BTreeMap.{get};
-ghost use Rattle.std.specs.Ordering.{nat_cmp};
-ghost use Rattle.std.specs.Cmp.Lexicographic.{slice_cmp};
+ghost use Rattle.std.specs.Prelude.{◌≡◌, Some, IfOk, map, option_map};
 ghost use Rattle.lalrpop_norm_faults.specs.Faults.{Refuses, fault_if};
 ghost use Rattle.lalrpop_norm_prevalidate.specs.SymbolFaults.{call_faults, terminal_faults, kind_faults, part_faults, parts_faults};
 ghost use Rattle.lalrpop_norm_prevalidate.specs.SymbolFaults.{list_faults, beside_faults, name_of, is_that_name, first_chosen, has_named};
-ghost use Rattle.lalrpop_norm_prevalidate.specs.SymbolFaults.{named_at, placed, again, lesser_name, least_twice};
+ghost use Rattle.lalrpop_norm_prevalidate.specs.SymbolFaults.{named_at, placed, again, lesser_name, symbol_names, first_repeated, second_at, least_twice};
 ghost use Rattle.lalrpop_norm_tree.specs.Symbols.{kind_view, symbol_view, parts_view};
 
 use super::Surroundings;
@@ -16,7 +13,6 @@ use lalrpop_norm_tree::grammar::parse_tree::{
     Atom, Binding, NoMemory, Span, Symbol, SymbolKind, TerminalString,
 };
 use std::alloc::Global;
-use std::collections::BTreeMap;
 
 /// How long a list of symbols may be whose names are compared with one another.
 const FEW: usize = 8;
@@ -249,37 +245,55 @@ fn least_of_few(symbols: &[Symbol]) -> Option<(&Atom, Span)>
     least
 }
 
-/// Notes the span of a symbol under its name, if it has one, and answers the name with the span that was noted before.
-fn note<'a>(
-    places: &mut BTreeMap<Atom, Span>,
-    symbol: &'a Symbol,
-) -> Result<Option<(&'a Atom, Span)>, NoMemory>
-    ensures found { IfOk result
-        (λ r. option_map (λ r. (r.0.now, r.1)) r ≡ placed (get (slice_cmp nat_cmp) places.old) (name_of (kind_view symbol.now.kind))) }
-    ensures notes { OnOk result ((name : List ℕ) → get (slice_cmp nat_cmp) places.new name
-        ≡ (if is_that_name name (name_of (kind_view symbol.now.kind)) then Some symbol.now.span
-        else get (slice_cmp nat_cmp) places.old name)) }
+/// The names that symbols have, in the order of the symbols.
+fn symbol_names(alloc: Global, symbols: &[Symbol]) -> Result<Vec<&Atom>, NoMemory>
+    ensures { IfOk result (λ names. map (λ a. a.now) names.items ≡ symbol_names (parts_view symbols.now)) }
 {
-    let Some(name) = name_of(&symbol.kind) else {
-        return Ok(None);
-    };
-    match places.insert(name.again(), symbol.span)? {
-        Some(later) => Ok(Some((name, later))),
-        None => Ok(None),
+    let mut names = Vec::with_capacity(alloc, symbols.len())?;
+    for symbol in symbols {
+        if let Some(name) = name_of(&symbol.kind) {
+            names.push(name)?;
+        }
     }
+    Ok(names)
+}
+
+/// The first name that the next one equals.
+fn first_repeated<'a>(names: &[&'a Atom]) -> Option<&'a Atom>
+    ensures { option_map (λ a. a.now) result ≡ first_repeated (map (λ a. a.now) names.now) }
+{
+    for later in 1..names.len() {
+        if names[later - 1] == names[later] {
+            return Some(names[later]);
+        }
+    }
+    None
+}
+
+/// The name with the span of the second symbol of it, if two symbols have it.
+fn second_named<'a>(name: &'a Atom, symbols: &[Symbol]) -> Option<(&'a Atom, Span)>
+    ensures { option_map (λ r. (r.0.now, r.1)) result ≡ placed (λ n. second_at n (parts_view symbols.now)) (Some name.now) }
+{
+    for i in 0..symbols.len() {
+        if is_name(name, name_of(&symbols[i].kind)) {
+            return again(Some(name), &symbols[i + 1..]);
+        }
+    }
+    None
 }
 
 /// The least name that two symbols of a long list have, with the span of the second of them.
+///
+/// Where the names are sorted, those that are equal stand side by side, and the least of them come first.
 fn least_of_many(alloc: Global, symbols: &[Symbol]) -> Result<Option<(&Atom, Span)>, NoMemory>
     ensures { IfOk result (λ r. option_map (λ r. (r.0.now, r.1)) r ≡ least_twice (parts_view symbols.now)) }
 {
-    let mut least = None;
-    let mut places = BTreeMap::new(alloc);
-    for i in (0..symbols.len()).rev() {
-        let found = note(&mut places, &symbols[i])?;
-        least = lesser(found, least);
+    let mut names = symbol_names(alloc, symbols)?;
+    names.sort()?;
+    match first_repeated(&names) {
+        Some(name) => Ok(second_named(name, symbols)),
+        None => Ok(None),
     }
-    Ok(least)
 }
 
 /// The least name that two symbols have, with the span of the second of them.
