@@ -1,6 +1,6 @@
 -- The least name that two symbols have is the first of the sorted names that the next one equals.
-use Rattle.std.proofs.Common.{◌≡◌, ℕ, suc, ◌+◌, ◌<◌, ◌≤◌, Bool, true, false, cond, ltb, List, [], ◌∷◌, ◌++◌, map, Bor, Option, Some, None, get_or, length, is_some, option_map, option_to_list, bytes_eq, count_by, IsPermutation, IsSorted}
-use Rattle.std.proofs.Common.{Ordering, Less, Equal, Greater, nat_cmp, is_eq, is_lt, refl, sym, ap, ap₂, subst, ◌∙◌, arith, zero-le, true≢false, lt-ltb, ltb-true, ltb-false, le-ltb}
+use Rattle.std.proofs.Common.{◌≡◌, ℕ, suc, ◌+◌, ◌≤◌, Bool, true, false, cond, ltb, List, [], ◌∷◌, ◌++◌, map, Bor, Option, Some, None, get_or, length, is_some, option_map, option_to_list, bytes_eq, count_by, IsPermutation, IsSorted}
+use Rattle.std.proofs.Common.{Ordering, Less, Equal, Greater, nat_cmp, is_eq, is_lt, refl, sym, ap, ap₂, subst, ◌∙◌, arith, zero-le, true≢false, lt-ltb, ltb-false, le-ltb}
 use Rattle.std.specs.Prelude.{⊤, if◌then◌else◌}
 use Rattle.std.specs.Ordering.{ordering_reverse}
 use Rattle.std.specs.Cmp.Lexicographic.{slice_cmp}
@@ -102,16 +102,12 @@ module _ (n p : Name) (ns : List Name) (up : Rises (p ∷ ns)) where
   rest_told (Some q) less h = (let whole = times-cons q n (p ∷ ns) in omega (arith, h.0), λ m low. one_more m _ refl less (h.1 m low))
 
   step_told : (b : Bool) → bytes_eq n p ≡ b → is_lt (name_cmp p n) ≡ false → IsLeastRepeated (p ∷ ns) (first_repeated (p ∷ ns)) → IsLeastRepeated (n ∷ p ∷ ns) (if b then Some p else first_repeated (p ∷ ns))
-  step_told true e first h = (
-    let both : times p (n ∷ p ∷ ns) ≡ 1 + (1 + times p ns) =
-        times-cons p n (p ∷ ns) ∙ ap₂ (λ b k. cond b 1 0 + k) (ap (bytes_eq p) (text_sound n p e) ∙ text_same p) (times-cons p p ns ∙ ap (λ b. cond b 1 0 + times p ns) (text_same p)) in
-        omega arith,
-    λ m low.
-        let none = none_below m p ns up low in
-        let whole = times-cons m n (p ∷ ns) in
-        let one = at_most (bytes_eq m n) in
-        omega arith,
-  )
+  step_told true e first h =
+      let both : times p (n ∷ p ∷ ns) ≡ 1 + (1 + times p ns) =
+      times-cons p n (p ∷ ns) ∙ ap₂ (λ b k. cond b 1 0 + k) (ap (bytes_eq p) (text_sound n p e) ∙ text_same p) (times-cons p p ns ∙ ap (λ b. cond b 1 0 + times p ns) (text_same p)) in
+      let others : (m : Name) → name_cmp m p ≡ Less → times m (n ∷ p ∷ ns) ≤ 1 =
+      λ m low. let none = none_below m p ns up low in let whole = times-cons m n (p ∷ ns) in let one = at_most (bytes_eq m n) in omega arith in
+      (omega arith, others)
   step_told false e first h = rest_told _ (rises n p _ refl first e) h
 
 least_repeated : (ns : List Name) → Rises ns → IsLeastRepeated ns (first_repeated ns)
