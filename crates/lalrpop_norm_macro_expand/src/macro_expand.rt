@@ -166,8 +166,9 @@ fn round_after(count: u16) -> usize
     usize::from(count) + 1
 }
 
-/// How many nodes there is room for at first, for each item: most rules have a name that others use, and a symbol of their own.
-const NODES_OF_AN_ITEM: usize = 2;
+/// How many nodes there is room for at first, for each item: many rules have a name that others use, a symbol of their own, and a
+/// part of that.
+const NODES_OF_AN_ITEM: usize = 3;
 
 /// The rounds of an expansion.
 fn expand_rounds(alloc: Global, grammar: Grammar, limit: u16) -> NormResult<Expanded>
