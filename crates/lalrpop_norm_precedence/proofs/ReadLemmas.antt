@@ -14,7 +14,7 @@ use Rattle.lalrpop_norm_model.proofs.HandedLemmas.{levels_are_handed_on}
 use Rattle.lalrpop_norm_precedence_steps.specs.declared.levels.AlternativeLevel.{AlternativeLevel}
 use Rattle.lalrpop_norm_precedence_steps.specs.LevelFaults.{missing_level_faults, level_attribute_faults, level_faults, least, lowest_level, lowest_faults, lowest_level_faults, levels_and_sides}
 use Rattle.lalrpop_norm_precedence_steps.specs.StatedLevels.{alternative_level_view}
-use Rattle.lalrpop_norm_precedence.specs.Handed.{handed_levels, handed_faults}
+use Rattle.lalrpop_norm_precedence.specs.Handed.{handed_levels, handed_faults, placed_faults}
 
 levels_handed : (level : Option ℕ) (side : Option Side) (rs : List AlternativeData) →
     map (λ (a : Leveled). (a.level, a.side)) (present (handed_on level side (map Some rs))) ≡ handed_levels level side rs
@@ -27,6 +27,12 @@ pub faults_handed : (lowest : ℕ) (level : Option ℕ) (side : Option Side) (rs
 faults_handed lowest level side [] = refl
 faults_handed lowest level side (a ∷ rs) =
     ap (λ xs. lowest_faults lowest (unwrap_or (level_after level (Some a)) 0) a ++ xs) (faults_handed lowest (level_after level (Some a)) (side_after side (Some a)) rs)
+
+placed_as_handed : (lowest : ℕ) (level : Option ℕ) (side : Option Side) (rs : List AlternativeData) →
+    placed_faults lowest (map (λ (p : ℕ × Side). p.0) (handed_levels level side rs)) rs ≡ handed_faults lowest level rs
+placed_as_handed lowest level side [] = refl
+placed_as_handed lowest level side (a ∷ rs) =
+    ap (λ xs. lowest_faults lowest (unwrap_or (level_after level (Some a)) 0) a ++ xs) (placed_as_handed lowest (level_after level (Some a)) (side_after side (Some a)) rs)
 
 pub levels_read : (r : RuleData) → levels_and_sides r ≡ handed_levels None None r.alternatives
 levels_read r =
@@ -60,9 +66,10 @@ lowest_faults_read r xs l e same =
 pub level_faults_read : (r : RuleData) (xs : List AlternativeLevel) (l : ℕ) → missing_level_faults r.alternatives ≡ [] → flat_map level_attribute_faults r.alternatives ≡ [] →
     map alternative_level_view xs ≡ handed_levels None None r.alternatives →
     l ≡ unwrap_or (least (map (λ (l : AlternativeLevel). (alternative_level_view l).0) xs)) 0 →
-    level_faults r ≡ handed_faults l None r.alternatives
+    level_faults r ≡ placed_faults l (map (λ (l : AlternativeLevel). (alternative_level_view l).0) xs) r.alternatives
 level_faults_read r xs l e f read same =
     ap₂ (λ a b. a ++ b ++ lowest_level_faults (with_levels (all_places r))) e f ∙ lowest_faults_read r xs l read same
+    ∙ sym (ap (λ ls. placed_faults l ls r.alternatives) (first_of_views xs ∙ ap (map (λ (p : ℕ × Side). p.0)) read) ∙ placed_as_handed l None None r.alternatives)
 
 -- the exit by `?` of the last look, which finds all faults that are left
 pub exit_last : {T : Type 0} (r : Result T NormFailure) (e : NormFailure) (here all : List Fault) (P : T → Type 0) →

@@ -16,3 +16,9 @@ abbrev pub handed_faults : ℕ → Option ℕ → List AlternativeData → List 
 handed_faults lowest level [] = []
 handed_faults lowest level (a ∷ rest) =
     lowest_faults lowest (unwrap_or (level_after level (Some a)) 0) a ++ handed_faults lowest (level_after level (Some a)) rest
+
+-- the faults of alternatives whose levels are listed beside them
+abbrev pub placed_faults : ℕ → List ℕ → List AlternativeData → List Fault
+placed_faults lowest [] rest = []
+placed_faults lowest (l ∷ ls) [] = []
+placed_faults lowest (l ∷ ls) (a ∷ rest) = lowest_faults lowest l a ++ placed_faults lowest ls rest

@@ -1,5 +1,5 @@
 //! Levels and associativities as a rule's alternatives state them.
-ghost use Rattle.std.specs.Prelude.{◌≡◌, ◌^◌, None, IfOk, is_some, option_map, map, flat_map, codes, if◌then◌else◌};
+ghost use Rattle.std.specs.Prelude.{◌≡◌, ◌^◌, None, IfOk, is_some, length, option_map, map, flat_map, codes, if◌then◌else◌};
 ghost use Rattle.lalrpop_norm_tree.specs.Accessors.{or_else};
 ghost use Rattle.lalrpop_norm_tree_parts.specs.Attributes.{attribute_view, attributes_view};
 ghost use Rattle.lalrpop_norm_tree.specs.Items.{alternative_view, rule_view};
@@ -10,7 +10,7 @@ ghost use Rattle.lalrpop_norm_precedence_steps.specs.LevelFaults.{level_argument
 ghost use Rattle.lalrpop_norm_precedence_steps.specs.LevelFaults.{lesser_level, least, is_narrow, is_barred, barred_faults};
 ghost use Rattle.lalrpop_norm_precedence_steps.specs.LevelFaults.{lowest_faults, level_faults, levels_and_sides, has_several_levels};
 ghost use Rattle.lalrpop_norm_precedence_steps.specs.StatedLevels.{alternative_level_view};
-ghost use Rattle.lalrpop_norm_precedence.specs.Handed.{handed_levels, handed_faults};
+ghost use Rattle.lalrpop_norm_precedence.specs.Handed.{handed_levels, placed_faults};
 
 use super::{ASSOC_ATTR, AlternativeLevel, Assoc, LVL_ARG, PREC_ATTR, SIDE_ARG};
 use lalrpop_norm_faults::{FaultKind, NormResult, refusal};
@@ -35,7 +35,7 @@ pub fn read_levels(alloc: Global, rule: &NonterminalData) -> NormResult<Vec<Alte
     check_attributes(alloc, &rule.alternatives)?;
     let levels = hand_on(alloc, &rule.alternatives)?;
     let lowest = least(&levels).unwrap_or(0);
-    check_lowest(alloc, lowest, &rule.alternatives)?;
+    check_lowest(alloc, lowest, &levels, &rule.alternatives)?;
     Ok(levels)
 }
 
@@ -269,13 +269,19 @@ fn check_barred(alloc: Global, alternative: &Alternative) -> NormResult<()>
     }
 }
 
-fn check_lowest(alloc: Global, lowest: u32, alternatives: &[Alternative]) -> NormResult<()>
-    ensures { Refuses result (handed_faults lowest None (map alternative_view alternatives.now)) }
+/// Looks at the alternatives on the lowest level, where each has the level at its index.
+fn check_lowest(
+    alloc: Global,
+    lowest: u32,
+    levels: &[AlternativeLevel],
+    alternatives: &[Alternative],
+) -> NormResult<()>
+    requires { length levels.now ≡ length alternatives.now }
+    ensures { Refuses result (placed_faults lowest (map (λ l. (alternative_level_view l).0) levels.now)
+        (map alternative_view alternatives.now)) }
 {
-    let mut level = None;
-    for alternative in alternatives {
-        level = level_after(level, stated_level(&alternative.attributes));
-        check_place(alloc, lowest, level.unwrap_or(0), alternative)?;
+    for (i, alternative) in alternatives.iter().enumerate() {
+        check_place(alloc, lowest, levels[i].level, alternative)?;
     }
     Ok(())
 }
