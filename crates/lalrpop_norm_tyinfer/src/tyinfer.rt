@@ -14,6 +14,7 @@ ghost use Rattle.lalrpop_norm_tyinfer_steps.specs.Filled.{HasAllRows, table_faul
 ghost use Rattle.lalrpop_norm_tyinfer_steps.specs.Inferred.{IsInferred};
 ghost use Rattle.lalrpop_norm_tyinfer_steps.specs.Needs.{names_seen};
 ghost use Rattle.lalrpop_norm_tyinfer_steps.specs.Numbered.{numbered_table, NumbersRules};
+ghost use Rattle.lalrpop_norm_tyinfer_steps.specs.TableFaults.{AgreeAlone};
 ghost use Rattle.lalrpop_norm_tyinfer_steps.specs.Visits.{plain_rule_view, rule_seen, with_clauses};
 
 mod agreement;
@@ -132,7 +133,8 @@ fn filled_table(alloc: Global, grammar: &Grammar, rules: &[PlainRule]) -> Result
 fn check_table(alloc: Global, types: &Numbered, rules: &[PlainRule]) -> NormResult<()>
     requires distinct { IsDistinct (names_seen (map rule_seen rules.now)) }
     requires numbered { NumbersRules types.now (map rule_seen rules.now) }
-    ensures { (ps : List TypeParameter) → Refuses result (table_faults ps (numbered_table types.now) (map plain_rule_view rules.now)) }
+    ensures { (ps : List TypeParameter) → AgreeAlone ps (numbered_table types.now) (map rule_seen rules.now) →
+        Refuses result (table_faults ps (numbered_table types.now) (map plain_rule_view rules.now)) }
 {
     check_typed(alloc, types, rules)?;
     check_agreement(alloc, types, rules)?;

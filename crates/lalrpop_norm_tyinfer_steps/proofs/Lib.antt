@@ -9,7 +9,7 @@ mod NeededLemmas
 pub mod NumberLemmas
 pub mod NumberedLemmas
 pub mod NumberedRounds
-mod ReadLemmas
+pub mod ReadLemmas
 pub mod RoundLemmas
 mod SameLemmas
 mod SharedLevels

@@ -1,5 +1,5 @@
 -- The faults of inference by a table of types, rule by rule.
-use Rattle.std.specs.Prelude.{ℕ, Bool, false, List, [], ◌++◌, map, flat_map, Option, Some, None, is_none}
+use Rattle.std.specs.Prelude.{◌≡◌, ◌∷◌, ℕ, Bool, false, List, [], ◌++◌, map, flat_map, Option, Some, None, is_none}
 use Rattle.std.specs.Prelude.{if◌then◌else◌}
 use Rattle.lalrpop_norm_tree_names.specs.declared.names.Span.{Span}
 use Rattle.lalrpop_norm_tree_names.specs.declared.names.TypeParameter.{TypeParameter}
@@ -10,11 +10,12 @@ use Rattle.lalrpop_norm_tree.specs.Symbols.{Parts, no_parts, part_and}
 use Rattle.lalrpop_norm_faults.specs.Faults.{Fault, fault_if}
 use Rattle.lalrpop_norm_faults.specs.declared.kind.FaultKind.{FaultKind}
 use Rattle.lalrpop_norm_faults.specs.declared.kind.FaultKind.TheVariants.{NotGrounded, Disagreement}
+use Rattle.lalrpop_norm_theory.specs.Rounds.{In}
 use Rattle.lalrpop_norm_repr.specs.Tables.{TypeTable}
 use Rattle.lalrpop_norm_model.specs.Grammars.{is_nil}
 use Rattle.lalrpop_norm_model.specs.InferenceFaults.{is_undeclared, lack_of, is_other}
 use Rattle.lalrpop_norm_model.specs.TuplePatterns.{Pattern, symbol_misfits}
-use Rattle.lalrpop_norm_model.specs.TypeRelation.{TypeClause, alternative_clause}
+use Rattle.lalrpop_norm_model.specs.TypeRelation.{TypeClause, alternative_clause, type_clauses}
 use Rattle.lalrpop_norm_model.specs.TypeTables.{Table}
 use Rattle.lalrpop_norm_tyinfer_steps.specs.Clauses.{clause_in}
 use Rattle.lalrpop_norm_tyinfer_steps.specs.TableValues.{type_by_name}
@@ -39,6 +40,14 @@ other_in ps tt n a = fault_if (disagrees_in ps tt n (alternative_clause a)) (Dis
 
 abbrev pub others_in : List TypeParameter → TypeTable → RuleData → List Fault
 others_in ps tt r = if is_undeclared r then flat_map (other_in ps tt r.name.0) r.alternatives else []
+
+-- The clauses are those of the rule. If there is only one, what it makes is the type of the rule.
+pub record AgreesAlone (ps : List TypeParameter) (tt : TypeTable) (s : Seen) : Type 0 where
+  pub clauses : s.1 ≡ type_clauses s.0
+  pub alone : (c : TypeClause) → s.1 ≡ c ∷ [] → (x : ReprData) → clause_in ps tt c ≡ Some x → type_by_name tt s.0.name.0 ≡ Some x
+
+abbrev pub AgreeAlone : List TypeParameter → TypeTable → List Seen → Type 0
+AgreeAlone ps tt ss = (s : Seen) → In s ss → AgreesAlone ps tt s
 
 -- kinds of faults at one span
 abbrev pub faults_at : Span → List FaultKind → List Fault
