@@ -22,7 +22,7 @@ use lalrpop_norm_tyinfer_steps::type_sources::{RuleClauses, alternative_clause};
 use std::alloc::Global;
 
 /// Rejects an alternative of a rule without a declared type if it gives another type than the rule has, under any type
-/// parameters under which the only clause of a rule agrees with it.
+/// parameters. If a rule has only one clause, the type that this makes is the rule's (`AgreeAlone`).
 pub(crate) fn check_agreement(
     alloc: Global,
     types: &Numbered,
