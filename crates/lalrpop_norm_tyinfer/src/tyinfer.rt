@@ -53,7 +53,7 @@ pub fn infer_types(alloc: Global, grammar: &Grammar) -> NormResult<Types>
     Ok(types.into_types(alloc)?)
 }
 
-/// As `infer_types`, with types of nonterminals that share their parts: the type of a rule that another one has too, or has as
+/// As `infer_types`, with types of nonterminals that share their parts: the type that a rule takes from another one, whole or as
 /// a part, is there once.
 ///
 /// Errors: those of `infer_types`.
