@@ -3,7 +3,8 @@ ghost use Rattle.std.specs.Prelude.{◌≡◌, Some, IfOk, map, option_map};
 ghost use Rattle.lalrpop_norm_faults.specs.Faults.{Refuses, fault_if};
 ghost use Rattle.lalrpop_norm_prevalidate.specs.SymbolFaults.{call_faults, terminal_faults, kind_faults, part_faults, parts_faults};
 ghost use Rattle.lalrpop_norm_prevalidate.specs.SymbolFaults.{list_faults, beside_faults, name_of, is_that_name, first_chosen, has_named};
-ghost use Rattle.lalrpop_norm_prevalidate.specs.SymbolFaults.{named_at, placed, again, lesser_name, symbol_names, first_repeated, second_at, least_twice};
+ghost use Rattle.lalrpop_norm_prevalidate.specs.SymbolFaults.{named_at, placed, again, lesser_name, least_twice};
+ghost use Rattle.lalrpop_norm_prevalidate.specs.SymbolFaults.{symbol_names, first_repeated, second_at};
 ghost use Rattle.lalrpop_norm_tree.specs.Symbols.{kind_view, symbol_view, parts_view};
 
 use super::Surroundings;
