@@ -12,7 +12,7 @@ use Rattle.lalrpop_norm_faults.specs.declared.kind.FaultKind.TheVariants.{Disagr
 use Rattle.lalrpop_norm_faults.specs.Faults.{Fault, IsFirst, fault_if}
 use Rattle.lalrpop_norm_repr.specs.Tables.{TypeTable}
 use Rattle.lalrpop_norm_model.specs.Expanded.{rule_names}
-use Rattle.lalrpop_norm_model.specs.InferenceFaults.{inferred_table, is_other, is_undeclared}
+use Rattle.lalrpop_norm_model.specs.InferenceFaults.{inferred_table, is_other}
 use Rattle.lalrpop_norm_model.specs.PlainRules.{all_rules}
 use Rattle.lalrpop_norm_model.specs.SameTypes.{same_type}
 use Rattle.lalrpop_norm_model.specs.TypeRelation.{IsRule, TypeClause, alternative_clause, type_clauses, type_clauses_of}

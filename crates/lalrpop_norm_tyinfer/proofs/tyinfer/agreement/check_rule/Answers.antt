@@ -6,5 +6,9 @@ use Rattle.lalrpop_norm_tyinfer.proofs.tyinfer.agreement.check_rule.Goals as goa
 pub returns-in-Declared : goal.returns-in-Declared
 returns-in-Declared c = λ ps agrees. rw c.in-Declared.is refl
 
-pub returns-in-Alternatives : goal.returns-in-Alternatives
-returns-in-Alternatives c = λ ps agrees. rw c.in-Alternatives.is (rw c.deref.ensures.value at (c.check_alternatives.ensures ps))
+pub returns-then-len-lt2 : goal.returns-then-len-lt2
+returns-then-len-lt2 c =
+    λ ps agrees. few_agree ps (numbered_table c.args.types.now) c.args.rule.now c.in-Alternatives.clauses c.in-Alternatives.is (omega (arith, c.len.ensures)) agrees
+
+pub returns-else-len-lt2 : goal.returns-else-len-lt2
+returns-else-len-lt2 c = λ ps agrees. rw c.in-Alternatives.is (rw c.deref.ensures.value at (c.check_alternatives.ensures ps))
