@@ -12,9 +12,9 @@ use Rattle.lalrpop_norm_tree.specs.declared.types.TypeRef.{TypeRef}
 use Rattle.lalrpop_norm_tree.specs.declared.types.TypeRef.TheVariants as written
 use Rattle.lalrpop_norm_tree.specs.declared.types.TypeRef.TheOpen.{TypeRef-F}
 use Rattle.lalrpop_norm_tree.specs.declared.types.TypeRef.TheFolds.{fold-roll-TypeRef}
-use Rattle.lalrpop_norm_tree.specs.declared.types.TypeRef.TheViews.{rolls-Tuple, rolls-Slice, rolls-Nominal, rolls-Ref, rolls-TraitObject, rolls-Lifetime, rolls-Id, rolls-OfSymbol, rolls-Fn}
+use Rattle.lalrpop_norm_tree.specs.declared.types.TypeRef.TheViews.{rolls-Tuple, rolls-Nominal, rolls-Ref, rolls-TraitObject, rolls-Lifetime, rolls-Id, rolls-OfSymbol, rolls-Fn}
 use Rattle.lalrpop_norm_tree.specs.Symbols.{kind_view}
-use Rattle.lalrpop_norm_tree.specs.Types.{TypeData, tuple, slice, nominal, reference, trait_object, of_lifetime, id, of_symbol, function, maybe_of, type_step, type_view, types_view}
+use Rattle.lalrpop_norm_tree.specs.Types.{TypeData, tuple, nominal, reference, trait_object, of_lifetime, id, of_symbol, function, maybe_of, type_step, type_view, types_view}
 use Rattle.lalrpop_norm_json.proofs.RowLoops.{row_is}
 use Rattle.lalrpop_norm_json.specs.Json.{fields, maybe_form as maybe_json, list_form as list_json}
 use Rattle.lalrpop_norm_json.specs.Forms.{lifetime_form, type_parameter_form, path_form}
@@ -49,11 +49,6 @@ pub tuple_read : (ts : Vec TypeRef Global) → under (codes "Tuple") (list_form 
 tuple_read ts =
     let seen : type_view (written.Tuple ts) ≡ tuple (types_view ts.items) = ap type_view (sym (rolls-Tuple ts)) ∙ fold-roll-TypeRef TypeData type_step (TypeRef-F.Tuple ts) in
     ap (under (codes "Tuple")) (types_read ts.items) ∙ ap type_form (sym seen)
-
-pub slice_read : (b : Box TypeRef Global) → under (codes "Slice") (type_form (type_view b.value)) ≡ type_form (type_view (written.Slice b))
-slice_read b =
-    let seen : type_view (written.Slice b) ≡ slice (type_view b.value) = ap type_view (sym (rolls-Slice b)) ∙ fold-roll-TypeRef TypeData type_step (TypeRef-F.Slice b) in
-    ap type_form (sym seen)
 
 -- a path with types
 abbrev pub applied_form : Path → List TypeRef → Data
