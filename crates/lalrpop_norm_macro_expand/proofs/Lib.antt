@@ -4,6 +4,8 @@ pub mod DistinctLemmas
 mod ExitLemmas
 mod FreshLemmas
 mod GeneratedLemmas
+mod ItemsWithoutMacros
+mod LastRound
 mod LoopLemmas
 mod MadeLemmas
 mod MakingLemmas

@@ -1,25 +1,24 @@
 -- The state of the code once a round was read, and the rounds of the definition.
-use Rattle.std.proofs.Common.{◌≡◌, ◌⊎◌, inl, inr, ℕ, zero, suc, ◌+◌, ◌<◌, ◌≤◌, List, [], ◌∷◌, ◌++◌, Bool, true, false, cond, length, map, drop, reverse, Some, Vec, Global, refl, sym, ap, ap₂, ◌∙◌, subst, arith, append-nil, append_assoc}
-use Rattle.std.specs.Prelude.{not, filter, flat_map}
+use Rattle.std.proofs.Common.{◌≡◌, ◌⊎◌, inl, inr, ℕ, zero, suc, ◌<◌, List, [], ◌∷◌, ◌++◌, Bool, true, length, map, drop, reverse, Some, Vec, Global, refl, sym, ap, ap₂, ◌∙◌, subst, arith, append-nil, append_assoc}
+use Rattle.std.specs.Prelude.{flat_map}
 use Rattle.std.proofs.Math.Seq.{drop-append_seam}
-use Rattle.std.proofs.lemmas.List.{map-append, length-append, length-map, length-reverse}
+use Rattle.std.proofs.lemmas.List.{map-append}
 use Rattle.std.proofs.lemmas.Grind.{flat_map-append}
 use Rattle.lalrpop_norm_tree.specs.Symbols.{Kind, Part, at, symbol_view}
 use Rattle.lalrpop_norm_tree.specs.SymbolTexts.{part_text}
-use Rattle.lalrpop_norm_tree.specs.Items.{RuleData, ItemData, GrammarData, match_item, extern_item, intern_item, rule_item, use_item}
+use Rattle.lalrpop_norm_tree.specs.Items.{RuleData, ItemData, GrammarData, rule_item}
 use Rattle.lalrpop_norm_faults.specs.declared.failure.NormFailure.{NormFailure}
 use Rattle.lalrpop_norm_faults.specs.Faults.{Fault, first, IsFault, IsFirst}
 use Rattle.lalrpop_norm_faults.proofs.FaultLemmas.{first_of_more}
 use Rattle.lalrpop_norm_theory.specs.Rounds.{In, Round, fresh_of}
 use Rattle.lalrpop_norm_theory.proofs.RoundsLemmas.{fresh_listed, of_reverse}
 use Rattle.lalrpop_norm_theory.proofs.ListLemmas.{map_reverse}
-use Rattle.lalrpop_norm_model.specs.Grammars.{is_nil}
 use Rattle.lalrpop_norm_model.specs.MadeRules.{kind_of, made_rules}
 use Rattle.lalrpop_norm_model.specs.Expanded.{rule_names}
-use Rattle.lalrpop_norm_model.specs.PlainRules.{met, met_in_rule, met_by_made, rule_of_item, rules_without_arguments, macros_of, same_apart_from_spans, expansion_round, made_symbols, made_in, IsEnded, plain_item, plain_grammar, replaced_rule}
+use Rattle.lalrpop_norm_model.specs.PlainRules.{met, met_in_rule, met_by_made, rules_without_arguments, macros_of, same_apart_from_spans, expansion_round, made_symbols, made_in, IsEnded, plain_item, plain_grammar, replaced_rule}
 use Rattle.lalrpop_norm_conditions.specs.Conditions.{comparison}
 use Rattle.lalrpop_norm_nodes.specs.Apart.{nowhere, unplaced_kind, unplaced}
-use Rattle.lalrpop_norm_nodes.specs.Meeting.{inside, met_inside, own, first_with_text, after, clash_faults, were_met, has_key}
+use Rattle.lalrpop_norm_nodes.specs.Meeting.{inside, met_inside, own, first_with_text, after, clash_faults, were_met}
 use Rattle.lalrpop_norm_nodes.proofs.InwardLemmas.{met_then}
 use Rattle.lalrpop_norm_nodes.specs.declared.node.Nodes.{Nodes}
 use Rattle.lalrpop_norm_nodes.specs.declared.table.Table.{Table}
@@ -30,80 +29,19 @@ use Rattle.lalrpop_norm_nodes.specs.Tables.{wholes_in, own_in, seen_in, waiting_
 use Rattle.lalrpop_norm_nodes.specs.Waits.{parts_replaced, first_met, LeavesWaiting}
 use Rattle.lalrpop_norm_nodes.proofs.MeetLemmas.{were_left}
 use Rattle.lalrpop_norm_nodes.proofs.SymbolLemmas.{split_at}
-use Rattle.lalrpop_norm_nodes.proofs.ShallowMeetings.{MeetAlike, alike_none, alike_one, alike_both}
+use Rattle.lalrpop_norm_nodes.proofs.ShallowMeetings.{MeetAlike}
 use Rattle.lalrpop_norm_nodes.proofs.ShallowRounds.{round_refused, round_seen, round_waits, IsInward, inward_each, rule_inward, first_of_text}
 use Rattle.lalrpop_norm_nodes.proofs.WaitStands.{with_number, with_whole, waiting_are}
 use Rattle.lalrpop_norm_macro_expand_rules.specs.Names.{is_declared_name}
-use Rattle.lalrpop_norm_macro_expand_rules.specs.Items.{replaced_item, met_in_item, shown_in_item, without_macro, macro_in}
+use Rattle.lalrpop_norm_macro_expand_rules.specs.Items.{replaced_item, met_in_item, shown_in_item, without_macro}
 use Rattle.lalrpop_norm_macro_expand_rules.specs.Generated.{GeneratedData, met_in_generated, shown_in_generated, generated_read}
-use Rattle.lalrpop_norm_macro_expand.specs.Expansion.{shared_names, meetings, met_before, shared_in, unmade, unmade_in, past_cap, faults_from, expansion_faults}
+use Rattle.lalrpop_norm_macro_expand.specs.Expansion.{meetings, met_before, shared_in, unmade, unmade_in, past_cap, faults_from, expansion_faults}
 use Rattle.lalrpop_norm_macro_expand.specs.Kept.{kept_by}
 use Rattle.lalrpop_norm_macro_expand.specs.Making.{generated_of, generated_for}
 use Rattle.lalrpop_norm_macro_expand.proofs.FreshLemmas.{Tells, after_fresh, first_same, quiet_same, tells_after}
 use Rattle.lalrpop_norm_macro_expand.proofs.MadeLemmas.{NewOnes, kept_replaced}
 use Rattle.lalrpop_norm_macro_expand.proofs.GeneratedLemmas.{generated_by, generated_are_read, rules_read, all_unmade}
-
-abbrev replaced_rules : List RuleData → List ItemData
-replaced_rules rs = map (λ r. rule_item (replaced_rule r)) rs
-
--- ---- the items of a grammar, without macros
-
-others_met : (is : List ItemData) → flat_map met_in_item (flat_map without_macro is) ≡ flat_map met_in_rule (filter (λ r. is_nil r.args) (flat_map rule_of_item is))
-others_met [] = refl
-others_met (rule_item r ∷ is) = by (is_nil r.args) (others_met is)
-  where
-    by : (b : Bool) → flat_map met_in_item (flat_map without_macro is) ≡ flat_map met_in_rule (filter (λ r. is_nil r.args) (flat_map rule_of_item is)) →
-        flat_map met_in_item (cond b (rule_item r ∷ []) [] ++ flat_map without_macro is)
-        ≡ flat_map met_in_rule (cond b (r ∷ filter (λ r. is_nil r.args) (flat_map rule_of_item is)) (filter (λ r. is_nil r.args) (flat_map rule_of_item is)))
-    by true deeper = ap (λ ps. met_in_rule r ++ ps) deeper
-    by false deeper = deeper
-others_met (match_item m ∷ is) = others_met is
-others_met (extern_item t ∷ is) = others_met is
-others_met (intern_item t ∷ is) = others_met is
-others_met (use_item u ∷ is) = others_met is
-
-others_plain : (is : List ItemData) → map replaced_item (flat_map without_macro is) ≡ flat_map plain_item is
-others_plain [] = refl
-others_plain (rule_item r ∷ is) = by (is_nil r.args) (others_plain is)
-  where
-    by : (b : Bool) → map replaced_item (flat_map without_macro is) ≡ flat_map plain_item is →
-        map replaced_item (cond b (rule_item r ∷ []) [] ++ flat_map without_macro is) ≡ cond b (rule_item (replaced_rule r) ∷ []) [] ++ flat_map plain_item is
-    by true deeper = ap (λ rs. rule_item (replaced_rule r) ∷ rs) deeper
-    by false deeper = deeper
-others_plain (match_item m ∷ is) = ap (λ rs. match_item m ∷ rs) (others_plain is)
-others_plain (extern_item t ∷ is) = ap (λ rs. extern_item t ∷ rs) (others_plain is)
-others_plain (intern_item t ∷ is) = ap (λ rs. intern_item t ∷ rs) (others_plain is)
-others_plain (use_item u ∷ is) = ap (λ rs. use_item u ∷ rs) (others_plain is)
-
-pub macros_are : (is : List ItemData) → flat_map macro_in is ≡ filter (λ r. not (is_nil r.args)) (flat_map rule_of_item is)
-macros_are [] = refl
-macros_are (rule_item r ∷ is) = by (is_nil r.args) (macros_are is)
-  where
-    by : (b : Bool) → flat_map macro_in is ≡ filter (λ r. not (is_nil r.args)) (flat_map rule_of_item is) →
-        cond b [] (r ∷ []) ++ flat_map macro_in is
-        ≡ cond (not b) (r ∷ filter (λ r. not (is_nil r.args)) (flat_map rule_of_item is)) (filter (λ r. not (is_nil r.args)) (flat_map rule_of_item is))
-    by true deeper = deeper
-    by false deeper = ap (λ rs. r ∷ rs) deeper
-macros_are (match_item m ∷ is) = macros_are is
-macros_are (extern_item t ∷ is) = macros_are is
-macros_are (intern_item t ∷ is) = macros_are is
-macros_are (use_item u ∷ is) = macros_are is
-
--- ---- symbols that are reached with all that is in them
-
-alike_same : (names : List ℕ → Bool) (start xs : List Part) → MeetAlike names start (map parts_replaced xs) xs xs
-alike_same names start [] = alike_none names start
-alike_same names start (x ∷ xs) =
-    alike_both names start (parts_replaced x ∷ []) (x ∷ []) (x ∷ []) _ _ _ (alike_one names start (parts_replaced x) x x refl refl refl) (alike_same names start xs)
-
-shown_items : (is : List ItemData) → flat_map shown_in_item is ≡ map parts_replaced (flat_map met_in_item is)
-shown_items [] = refl
-shown_items (i ∷ is) =
-    ap (λ ps. map parts_replaced (met_in_item i) ++ ps) (shown_items is) ∙ sym (map-append parts_replaced (met_in_item i) (flat_map met_in_item is))
-
-pub grammar_alike : (names : List ℕ → Bool) (g : GrammarData) →
-    MeetAlike names [] (flat_map shown_in_item (flat_map without_macro g.items)) (flat_map met_in_item (flat_map without_macro g.items)) (meetings comparison g 0)
-grammar_alike names g = rw (shown_items (flat_map without_macro g.items), others_met g.items) (alike_same names [] (meetings comparison g 0))
+use Rattle.lalrpop_norm_macro_expand.proofs.ItemsWithoutMacros.{replaced_rules, others_plain, grammar_alike}
 
 -- ---- rounds
 
@@ -404,83 +342,3 @@ module _ (g : GrammarData) where
       subst (λ (v : Vec Waiting Global). AtRound limit left k (seen_in a) (map (λ w. symbol_view w.symbol) v.items) done) (sym same)
       (subst (λ (ns : Nodes). AtRound limit left k (flat_map own_in (wholes ns)) (waiting_in z) done) (sym nodes) h) in
       record { round = round; making = is_making a limit left k (seen_in a) done xs.items table refl round numbered }
-
-  -- ---- F36
-
-  past_cap_replaced : (xs : List Part) → past_cap (map parts_replaced xs) ≡ past_cap xs
-  past_cap_replaced [] = refl
-  past_cap_replaced (at s i ∷ []) = refl
-  past_cap_replaced (x ∷ y ∷ xs) = past_cap_replaced (y ∷ xs)
-
-  pub cap_refused : (limit left k : ℕ) (seen waiting : List Part) (done : List ItemData) → AtRound limit left k seen waiting done → left ≡ 0 →
-      expansion_faults comparison g limit ≡ past_cap waiting
-  cap_refused limit left k seen waiting done h e =
-      h.rest ∙ ap (faults_after g k) e ∙ sym (past_cap_replaced (round k).fresh) ∙ ap past_cap (sym h.waits)
-
-  -- ---- the last round
-
-  next_none : (k : ℕ) → (round k).fresh ≡ [] → (round (suc k)).fresh ≡ []
-  next_none k e = ap (λ xs. fresh_of same_apart_from_spans ((round k).seen ++ (round k).fresh) (flat_map (met_by_made comparison (macros_of g)) (reverse xs))) e
-
-  pub fresh_stays : (k n m : ℕ) → m ≡ k + n → (round k).fresh ≡ [] → (round m).fresh ≡ []
-  fresh_stays k zero m e h = let same : m ≡ k = omega arith in ap (λ j. (round j).fresh) same ∙ h
-  fresh_stays k (suc n) m e h = fresh_stays (suc k) n m (omega arith) (next_none k h)
-
-  pub made_stays : (k n m : ℕ) → m ≡ k + n → (round k).fresh ≡ [] → made_symbols comparison g m ≡ made_symbols comparison g k
-  made_stays k zero m e h = let same : m ≡ k = omega arith in ap (made_symbols comparison g) same
-  made_stays k (suc n) m e h =
-      made_stays (suc k) n m (omega arith) (next_none k h)
-      ∙ ap (λ xs. made_symbols comparison g k ++ reverse xs) h
-      ∙ append-nil (made_symbols comparison g k)
-
-  pub quiet_end : (k left : ℕ) → (round k).fresh ≡ [] → shared_in comparison g k ≡ [] → faults_from comparison g k left ≡ []
-  quiet_end k zero h none_shared = ap₂ ◌++◌ none_shared (ap past_cap h)
-  quiet_end k (suc left) h none_shared =
-      ap₂ ◌++◌ none_shared
-      (ap₂ ◌++◌ (ap (λ xs. flat_map (unmade (macros_of g)) (reverse xs)) h)
-      (quiet_end (suc k) left (next_none k h)
-      (ap (λ xs. shared_names (rule_names g) (met_before comparison g (suc k)) (flat_map (met_by_made comparison (macros_of g)) (reverse xs))) h)))
-
-  faults_end : (k left : ℕ) → (round k).fresh ≡ [] → faults_after g k left ≡ []
-  faults_end k zero h = ap past_cap h
-  faults_end k (suc left) h =
-      ap₂ ◌++◌ (ap (λ xs. flat_map (unmade (macros_of g)) (reverse xs)) h)
-      (quiet_end (suc k) left (next_none k h)
-      (ap (λ xs. shared_names (rule_names g) (met_before comparison g (suc k)) (flat_map (met_by_made comparison (macros_of g)) (reverse xs))) h))
-
-  made_long : (k : ℕ) → length (made_symbols comparison g k) ≡ length (round k).seen
-  made_long zero = refl
-  made_long (suc k) =
-      length-append (made_symbols comparison g k) (reverse (round k).fresh)
-      ∙ ap₂ ◌+◌ (made_long k) (length-reverse (round k).fresh)
-      ∙ sym (length-append (round k).seen (round k).fresh)
-
-  pub record IsDone (limit k : ℕ) (seen : List Part) (made : List ItemData) : Type 0 where
-    pub faultless : expansion_faults comparison g limit ≡ []
-    pub whole : IsEnded comparison g limit
-    pub items : made ≡ (plain_grammar comparison g limit).items
-    pub ended : IsEnded comparison g k
-    pub long : length seen ≡ length (made_symbols comparison g limit)
-    pub stays : made_symbols comparison g limit ≡ made_symbols comparison g k
-
-  -- a round with nothing new is the last
-  pub last_round : (limit left k : ℕ) (seen waiting : List Part) (done : List ItemData) → AtRound limit left k seen waiting done → waiting ≡ [] → limit ≡ k + left →
-      IsDone limit k seen done
-  last_round limit left k seen waiting done h none sum = record {
-    faultless = h.rest ∙ faults_end k left nothing;
-    whole = fresh_stays k left limit sum nothing;
-    items = h.items ∙ ap (λ ps. flat_map plain_item g.items ++ replaced_rules (flat_map make ps)) (sym (made_stays k left limit sum nothing));
-    ended = nothing;
-    long =
-        sym (length-map seen unplaced) ∙ ap length h.before.kept ∙ length-map (round (suc k)).seen unplaced
-        ∙ ap (λ xs. length ((round k).seen ++ xs)) nothing ∙ ap length (append-nil (round k).seen)
-        ∙ sym (made_long k) ∙ ap length (sym (made_stays k left limit sum nothing));
-    stays = made_stays k left limit sum nothing;
-  }
-    where
-      no_more : (xs : List Part) → map parts_replaced xs ≡ [] → xs ≡ []
-      no_more [] e = refl
-      no_more (x ∷ xs) e = absurd (cc e)
-
-      nothing : (round k).fresh ≡ []
-      nothing = no_more (round k).fresh (sym h.waits ∙ none)

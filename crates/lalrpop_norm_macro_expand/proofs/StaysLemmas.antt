@@ -16,7 +16,8 @@ use Rattle.lalrpop_norm_model.specs.PlainRules.{met, all_met, met_in_rule, rule_
 use Rattle.lalrpop_norm_model.specs.Replaced.{replaced, replaced_kind, all_replaced}
 use Rattle.lalrpop_norm_macro_expand.specs.Expansion.{shared_names}
 use Rattle.lalrpop_norm_macro_expand.specs.Stays.{stays_there, symbol_stays, symbols_stay, alternative_stays, rule_stays, item_stays}
-use Rattle.lalrpop_norm_macro_expand.proofs.RoundLemmas.{IsDone, fresh_is, fresh_stays, made_stays, quiet_end}
+use Rattle.lalrpop_norm_macro_expand.proofs.RoundLemmas.{fresh_is}
+use Rattle.lalrpop_norm_macro_expand.proofs.LastRound.{IsDone, fresh_stays, made_stays, quiet_end}
 
 -- ---- symbols
 

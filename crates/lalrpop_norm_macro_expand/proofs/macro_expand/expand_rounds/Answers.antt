@@ -24,7 +24,9 @@ use Rattle.lalrpop_norm_macro_expand_rules.proofs.NameLemmas.{rule_names_are}
 use Rattle.lalrpop_norm_macro_expand.specs.Expansion.{past_cap}
 use Rattle.lalrpop_norm_macro_expand.specs.Made.{made_view}
 use Rattle.lalrpop_norm_macro_expand.proofs.MadeLemmas.{MadeSo, none_made, made_next, all_made}
-use Rattle.lalrpop_norm_macro_expand.proofs.RoundLemmas.{AtRound, macros_are, first_refused, first_round, taken, round_refused_so, round_next, cap_refused, last_round}
+use Rattle.lalrpop_norm_macro_expand.proofs.ItemsWithoutMacros.{macros_are}
+use Rattle.lalrpop_norm_macro_expand.proofs.RoundLemmas.{AtRound, first_refused, first_round, taken, round_refused_so, round_next}
+use Rattle.lalrpop_norm_macro_expand.proofs.LastRound.{cap_refused, last_round}
 use Rattle.lalrpop_norm_macro_expand.proofs.macro_expand.expand_rounds.Goals as goal
 
 pub rounds-init : goal.rounds-init
