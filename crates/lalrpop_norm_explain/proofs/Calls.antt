@@ -20,7 +20,8 @@ use Rattle.lalrpop_norm_explain.specs.WrittenShapes.{misshapen, written_faults}
 use Rattle.lalrpop_norm_explain.specs.Laws.{IsWritten, WaysFit, CallsFit, RealizedCallsFit}
 use Rattle.lalrpop_norm_explain.proofs.Derivations.{faultless_rooted}
 use Rattle.lalrpop_norm_explain.proofs.Ways.{ways_inverse}
-use Rattle.lalrpop_norm_explain.proofs.Shapes.{trees_are_shaped, faults_written}
+use Rattle.lalrpop_norm_explain.proofs.ShapedTrees.{trees_are_shaped}
+use Rattle.lalrpop_norm_explain.proofs.Shapes.{faults_written}
 
 -- a tree of a rule is a node of it
 pub is_node : (M : Meaning) (n : Name) (b : Option ℕ) (t : WrittenTree) → IsTreeOf M t (reference n b) → (k : ℕ) × (ts : WrittenTrees) × (t ≡ node n k ts)

@@ -4,6 +4,7 @@ pub mod Steps
 pub mod Derivations
 pub mod Back
 pub mod NoFault
+pub mod ShapedTrees
 pub mod Shapes
 pub mod Ways
 pub mod Formed
