@@ -2,7 +2,9 @@ mod WordLemmas
 mod MapCompositions
 mod UnmadeLemmas
 mod CapLemmas
+mod SharedSymbols
 mod SharedLemmas
+mod SharedChains
 mod OneRuleLemmas
 pub mod ShapeTrees
 pub mod PassLemmas
@@ -14,6 +16,8 @@ pub mod ExpandedInstances
 pub mod ExpandedTokens
 pub mod ExpandedPlain
 pub mod ExpandedSteps
+pub mod TypesWithoutSymbols
+pub mod ItemsWithoutFaults
 pub mod ExpandedWritten
 pub mod TypedPlain
 pub mod ExpandedActive
@@ -21,6 +25,7 @@ pub mod ExpandedWhole
 pub mod GroundedTypes
 pub mod ComposedFaithful
 pub mod ScopedLemmas
+pub mod LevelsResolved
 pub mod PlainShape
 pub mod StartProductions
 pub mod TreesRounds

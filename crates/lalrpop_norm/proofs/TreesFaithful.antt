@@ -46,7 +46,8 @@ use Rattle.lalrpop_norm_explain.specs.TreeFaults.{has_productions}
 use Rattle.lalrpop_norm_explain.specs.Anywhere.{IsNonterminalOf, IsMeant}
 use Rattle.lalrpop_norm.specs.Faithful.{HasStart, lowered_name, start_of, traced_derivations, written_meaning, written_name, written_symbols}
 use Rattle.lalrpop_norm.specs.Laws.{HasFlatMacros, HasOwnNames, LoweredTreesAreFaithful}
-use Rattle.lalrpop_norm.proofs.ScopedLemmas.{names_once, leveled_scoped, settled, levels_resolved}
+use Rattle.lalrpop_norm.proofs.ScopedLemmas.{names_once, leveled_scoped, settled}
+use Rattle.lalrpop_norm.proofs.LevelsResolved.{levels_resolved}
 use Rattle.lalrpop_norm.proofs.ShapeTrees.{AreFree}
 use Rattle.lalrpop_norm.proofs.PlainShape.{distinct_listed, free_listed, shape_derivations}
 use Rattle.lalrpop_norm.proofs.StartProductions.{start_listed, start_production, start_derivations, start_written}

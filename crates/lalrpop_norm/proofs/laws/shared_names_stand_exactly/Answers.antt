@@ -1,4 +1,4 @@
-use Rattle.lalrpop_norm.proofs.SharedLemmas.{shared_names_stand}
+use Rattle.lalrpop_norm.proofs.SharedChains.{shared_names_stand}
 use Rattle.lalrpop_norm.proofs.laws.shared_names_stand_exactly.Goals as goal
 
 pub returns : goal.returns
