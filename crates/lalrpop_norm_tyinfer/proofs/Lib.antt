@@ -2,4 +2,5 @@ mod ChosenLemmas
 mod AgreementLemmas
 mod RoundStarts
 mod Loops
+mod MeaningLemmas
 mod Sources

@@ -19,6 +19,7 @@ ghost use Rattle.lalrpop_norm_tyinfer_steps.specs.Visits.{plain_rule_view, rule_
 
 mod agreement;
 mod clause_values;
+mod meanings;
 mod rounds;
 mod tokens;
 

@@ -1,6 +1,8 @@
 //! Rounds in which rules take their types.
-ghost use Rattle.std.specs.Prelude.{◌≡◌, ◌<◌, [], ◌∷◌, ℕ, List, None, IfOk, OnOk, is_some, length, map};
+ghost use Rattle.std.specs.Prelude.{◌≡◌, ◌<◌, [], ◌∷◌, ℕ, List, None, IfOk, OnOk, is_some, length, map, option_map};
 ghost use Rattle.lalrpop_norm_theory.specs.Rounds.{IsDistinct};
+ghost use Rattle.lalrpop_norm_shared_types.specs.Shared.{shared_view};
+ghost use Rattle.lalrpop_norm_tyinfer_steps.specs.Clauses.{clauses_view, first_in};
 ghost use Rattle.lalrpop_norm_tyinfer_steps.specs.Needs.{names_seen};
 ghost use Rattle.lalrpop_norm_tyinfer_steps.specs.Numbered.{numbered_table, HasSameNumbers, IsNumberOf, NumbersRules};
 ghost use Rattle.lalrpop_norm_tyinfer_steps.specs.Stops.{IsStops, typed_at};
@@ -10,11 +12,14 @@ ghost use Rattle.lalrpop_norm_tyinfer_steps.specs.Waiting.{VisitsOne, Wakes};
 ghost use Rattle.lalrpop_norm_tyinfer.specs.Rounds.{rules_seen, IsBetween};
 
 use crate::tyinfer::clause_values::first_value;
+use crate::tyinfer::meanings::type_meant_at;
+use lalrpop_norm_shared_types::shared::SharedType;
 use lalrpop_norm_tree::grammar::parse_tree::{NoMemory, TypeParameter};
 use lalrpop_norm_tyinfer_steps::needs::needs_of;
 use lalrpop_norm_tyinfer_steps::numbered::Numbered;
 use lalrpop_norm_tyinfer_steps::rules::PlainRule;
 use lalrpop_norm_tyinfer_steps::stops::Stops;
+use lalrpop_norm_tyinfer_steps::type_sources::RuleClauses;
 use lalrpop_norm_tyinfer_steps::waiting::Waiting;
 use std::alloc::Global;
 
@@ -55,14 +60,34 @@ fn wake_one(
     next.add(other)
 }
 
+/// The type that the first clause of a rule makes of the table that makes one. Where it is that of the rule at an index, and is
+/// seen to be, it is one more owner of that.
+fn shared_value(
+    inference: &Inference,
+    types: &Numbered,
+    clauses: &RuleClauses,
+    last: Option<usize>,
+) -> Result<Option<SharedType>, NoMemory>
+    ensures { IfOk result (λ o. option_map shared_view o
+        ≡ first_in inference.now.parameters.now (numbered_table types.now) (clauses_view clauses.now)) }
+{
+    if let RuleClauses::Declared(written) = clauses {
+        if let Some(ty) = type_meant_at(types, written, last) {
+            return Ok(Some(ty.clone()?));
+        }
+    }
+    first_value(inference.alloc, inference.parameters, types, clauses)
+}
+
 /// Visits the rule at an index: one without a type takes that of its first clause that makes one. The rules of the clauses that
-/// have all types by that; none where it takes none.
+/// have all types by that; none where it takes none. A declared type that is that of the rule at the last index shares its parts.
 fn step(
     inference: &Inference,
     types: &mut Numbered,
     stops: &mut Stops,
     rule: &PlainRule,
     place: usize,
+    last: Option<usize>,
 ) -> Result<Vec<usize>, NoMemory>
     requires sound { IsStops stops.old }
     requires within { place < length stops.old.typed.items }
@@ -76,7 +101,7 @@ fn step(
     if stops.is_typed(place) {
         return Ok(Vec::new(alloc));
     }
-    match first_value(alloc, inference.parameters, types, &rule.clauses)? {
+    match shared_value(inference, types, &rule.clauses, last)? {
         Some(ty) => {
             types.put(place, ty);
             stops.give_type(alloc, place)
@@ -102,10 +127,16 @@ fn round(
     let mut next = Waiting::new(inference.alloc);
     // No code reads it: the invariant and the measure of the loop speak of it.
     let mut from = 0;
+    // The last rule here that declares its type.
+    let mut last = None;
     while let Some(place) = now.take_least() {
-        let ready = step(inference, types, stops, &rules[place], place)?;
+        let rule = &rules[place];
+        let ready = step(inference, types, stops, rule, place, last)?;
         wake(&ready, place, now, &mut next)?;
         from = place + 1;
+        if let RuleClauses::Declared(_) = &rule.clauses {
+            last = Some(place);
+        }
     }
     Ok(next)
 }
