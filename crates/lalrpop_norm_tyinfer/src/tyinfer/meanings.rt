@@ -1,4 +1,4 @@
-//! What declared types are seen to mean without a look at the table of types.
+//! Declared types that mean the same whatever the table of types has.
 ghost use Rattle.std.specs.Prelude.{◌≡◌, List, Some, IfSome, IsTrue};
 ghost use Rattle.lalrpop_norm_tree_names.specs.declared.names.TypeParameter.{TypeParameter};
 ghost use Rattle.lalrpop_norm_tree_parts.specs.Reprs.{named_repr};
@@ -29,7 +29,8 @@ fn is_named(ty: &SharedType, name: &Atom) -> bool
     }
 }
 
-/// The type of the rule at an index, if a declared type means it whatever the table, and is seen to: a single name is.
+/// The type of the rule at an index, if it is that of a name, and the declared type is this name: so it means that type, whatever
+/// the table has.
 pub(crate) fn type_meant_at<'t>(
     types: &'t Numbered,
     written: &TypeRef,

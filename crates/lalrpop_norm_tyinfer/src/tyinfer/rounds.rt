@@ -60,8 +60,8 @@ fn wake_one(
     next.add(other)
 }
 
-/// The type that the first clause of a rule makes of the table that makes one. Where it is that of the rule at an index, and is
-/// seen to be, it is one more owner of that.
+/// The type that a rule's clauses make by the table, of the first clause that makes one. Where the rule declares the name that is
+/// the type of the rule at that index, this is one more owner of that type.
 fn shared_value(
     inference: &Inference,
     types: &Numbered,
@@ -80,7 +80,7 @@ fn shared_value(
 }
 
 /// Visits the rule at an index: one without a type takes that of its first clause that makes one. The rules of the clauses that
-/// have all types by that; none where it takes none. A declared type that is that of the rule at the last index shares its parts.
+/// have all types by that; none where it takes none. A rule that declares the name that is the type of the rule at the last index shares that type.
 fn step(
     inference: &Inference,
     types: &mut Numbered,
