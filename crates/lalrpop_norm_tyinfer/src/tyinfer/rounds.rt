@@ -80,7 +80,8 @@ fn shared_value(
 }
 
 /// Visits the rule at an index: one without a type takes that of its first clause that makes one. The rules of the clauses that
-/// have all types by that; none where it takes none. A rule that declares the name that is the type of the rule at the last index shares that type.
+/// have all types by that; none where it takes none. A rule that declares the name that is the type of the rule at the last index
+/// shares that type.
 fn step(
     inference: &Inference,
     types: &mut Numbered,
