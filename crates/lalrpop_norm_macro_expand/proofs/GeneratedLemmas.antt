@@ -1,14 +1,10 @@
 -- The rules of symbols on the worklist, read in their environments, are the rules that these symbols are desugared to.
-use Rattle.std.proofs.Common.{◌≡◌, inl, inr, ℕ, List, [], ◌∷◌, ◌++◌, Bool, true, false, cond, map, Option, Some, None, bytes_eq, option_map, refl, sym, ap, ap₂, ◌∙◌, subst, append-nil}
+use Rattle.std.proofs.Common.{◌≡◌, inl, inr, ℕ, List, [], ◌∷◌, ◌++◌, Bool, true, false, cond, map, Option, Some, None, option_map, refl, sym, ap, ap₂, ◌∙◌, append-nil}
 use Rattle.std.specs.Prelude.{flat_map, ◌||◌}
-use Rattle.std.proofs.lemmas.Bool.{and_parts}
 use Rattle.std.proofs.lemmas.List.{map-append}
 use Rattle.std.proofs.lemmas.Grind.{flat_map-append}
-use Rattle.std.proofs.lemmas.Slice.Eq.{bytes_eq-Decides}
 use Rattle.lalrpop_norm_tree_names.specs.declared.names.Span.{Span}
 use Rattle.lalrpop_norm_tree_names.specs.declared.names.NonterminalString.{NonterminalString}
-use Rattle.lalrpop_norm_tree_names.specs.declared.names.TerminalString.TheVariants.{Literal, Bare, Error}
-use Rattle.lalrpop_norm_tree_names.specs.declared.names.TerminalLiteral.TheVariants.{Quoted, Regex}
 use Rattle.lalrpop_norm_tree.specs.declared.symbol.RepeatOp.{RepeatOp}
 use Rattle.lalrpop_norm_tree.specs.declared.symbol.RepeatOp.TheVariants.{Star, Plus, Question, Times}
 use Rattle.lalrpop_norm_tree.specs.declared.items.Condition.{Condition}
@@ -16,7 +12,7 @@ use Rattle.lalrpop_norm_tree.specs.Symbols.{Kind, Part, Parts, group, call, repe
 use Rattle.lalrpop_norm_tree.specs.Items.{AlternativeData, RuleData, ItemData, rule_item, lookahead_code, lookbehind_code}
 use Rattle.lalrpop_norm_tree.specs.SymbolTexts.{kind_text}
 use Rattle.lalrpop_norm_faults.specs.declared.kind.FaultKind.TheVariants.{NamedInGroup, NamedInTimes}
-use Rattle.lalrpop_norm_faults.specs.Faults.{Fault, fault_if}
+use Rattle.lalrpop_norm_faults.specs.Faults.{fault_if}
 use Rattle.lalrpop_norm_conditions.specs.Conditions.{comparison}
 use Rattle.lalrpop_norm_theory.specs.Rounds.{In}
 use Rattle.lalrpop_norm_model.specs.Grammars.{is_true}
@@ -29,10 +25,10 @@ use Rattle.lalrpop_norm_nodes.specs.Meeting.{inside, were_met}
 use Rattle.lalrpop_norm_nodes.specs.Waits.{parts_replaced}
 use Rattle.lalrpop_norm_nodes.proofs.ShallowConditions.{kept_in}
 use Rattle.lalrpop_norm_nodes.proofs.ShallowMeetings.{MeetAlike, alike_none, alike_both}
-use Rattle.lalrpop_norm_nodes.proofs.ShallowReadings.{copied, shown_in_each, met_in_each, each_read, call_copies, call_read, call_alike, repeat_read, repeat_alike, group_alike, location_alike}
+use Rattle.lalrpop_norm_nodes.proofs.ShallowReadings.{copied, each_read, call_read, call_alike, repeat_read, repeat_alike, group_alike, location_alike}
 use Rattle.lalrpop_norm_nodes.proofs.ShallowRules.{argument_replaced, argument_unplaced, group_replaced}
-use Rattle.lalrpop_norm_macro_expand_rules.specs.Conditions.{quoted_text, comparison_faults, value_faults, instance_faults, called_faults}
-use Rattle.lalrpop_norm_macro_expand_rules.specs.Generated.{GeneratedData, finished_rule, unread_rule, met_in_generated, shown_in_generated, generated_read, read_filled}
+use Rattle.lalrpop_norm_macro_expand_rules.specs.Conditions.{quoted_text, comparison_faults, value_faults, called_faults}
+use Rattle.lalrpop_norm_macro_expand_rules.specs.Generated.{GeneratedData, finished_rule, unread_rule, met_in_generated, shown_in_generated, generated_read}
 use Rattle.lalrpop_norm_macro_expand_repeats.specs.Repeats.{placeholder_name}
 use Rattle.lalrpop_norm_macro_expand.specs.Expansion.{unmade, unmade_repeat}
 use Rattle.lalrpop_norm_macro_expand.specs.Making.{kept_of, instance_shape, call_generated, placeholder_names, repeat_generated, generated_of}
