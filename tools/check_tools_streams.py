@@ -2,8 +2,10 @@
 
 A row of RUNS has a name, the command, the exit status, standard output and standard error, as docs/use/FORMATS.md has them. `$lexplain` is
 the program. The command is run in a folder with the files of `files`: the tree of examples/sums.json, trees of that grammar, the tree of a
-grammar with a fault, and what is no tree. WRITTEN and DERIVATION stand for the content of these files.
+grammar with a fault, that of a grammar whose types nest deep, and what is no tree. WRITTEN and DERIVATION stand for the content of these
+files.
 """
+import functools
 import json
 import os
 import subprocess
@@ -19,6 +21,11 @@ UNREAD = "lexplain: input or output failed\n"
 NO_GRAMMAR = "lexplain: the file is no tree of a grammar\n"
 NO_LINES = "lexplain: the lines are no tree\n"
 NO_WORDS = "lexplain: usage: %s\n" % USAGE["lexplain"]
+# A grammar whose rules have no types and two alternatives, each around the rule before; behind them a rule with two types.
+DEEP = "grammar; R0 = \"a\"; %s pub Z = { \"a\" \"a\", \"a\" };\n" % " ".join(
+    'R%d = { R%d "b", R%d "c" };' % (i + 1, i, i) for i in range(2000))
+OTHER_TYPE = ("F50 %d..%d: this alternative gives `&'input str`, and `Z` has the type `(&'input str, &'input str)`: make them agree, or declare "
+              "the type of `Z` and give each alternative code\n" % (DEEP.rindex('"a"'), DEEP.rindex('"a"') + len('"a"')))
 FAULT = "F27 17..24: `Missing` is not declared: add a rule or a terminal of this name, or correct the name\n"
 RUNS = (
     # The exit status 0.
@@ -39,6 +46,9 @@ RUNS = (
     ("of two the first has a fault", 'cat past derivation | "$lexplain" ambiguous grammar', 1, "", "first X2 /\n"),
     ("of two the second has a fault", 'cat derivation childless | "$lexplain" ambiguous grammar', 1, "", "second X3 /\n"),
     ("one tree twice", 'cat derivation derivation | "$lexplain" ambiguous grammar', 1, "", "X7\n"),
+
+    # Types that nest deeper than this stack could hold level by level are compared and dropped.
+    ("a fault behind types that nest deep", 'ulimit -s 256; "$lexplain" grammar deep', 1, "", OTHER_TYPE),
 
     # The exit status 2: the arguments are wrong.
     ("no argument", '"$lexplain" < derivation', 2, "", NO_WORDS),
@@ -121,13 +131,14 @@ def bytes_of(name):
         return file.read()
 
 
+@functools.cache
 def files():
     """The files of the folder, by their names."""
     derivation, written = bytes_of("sums.derivation.jsonl"), bytes_of("sums.written.jsonl")
     node = b'{"Node":{"nonterminal":"Sums","production":%d,"children":0}}\n'
     return {
         "grammar": bytes_of("sums.json"), "derivation": derivation, "written": written, "empty": b"", "not_utf8": b"\xff\n",
-        "fault": json.dumps(read("grammar; pub S = Missing;\n")).encode(),
+        "fault": json.dumps(read("grammar; pub S = Missing;\n")).encode(), "deep": json.dumps(read(DEEP)).encode(),
         "with_an_empty_line": derivation.replace(b"\n", b"\n\n", 1), "leaf": b'{"Leaf":"Error"}\n', "past": node % 70, "childless": node % 0,
         "written_past": b'{"Node":{"rule":"Sums","alternative":70,"children":0}}\n',
     }

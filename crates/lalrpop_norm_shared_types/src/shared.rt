@@ -4,10 +4,12 @@ ghost use Rattle.lalrpop_norm_tree_parts.specs.Reprs.{tuple, no_reprs};
 ghost use Rattle.lalrpop_norm_shared_types.specs.Shared.{shared_view, node_view};
 
 mod copy;
+mod release;
 mod share;
 mod show;
 
 use lalrpop_norm_tree::grammar::parse_tree::{Atom, Lifetime, NoMemory, Path, TypeParameter};
+use release::release_all;
 use std::alloc::{AllocError, Global};
 use std::rc::Rc;
 
@@ -64,12 +66,14 @@ pub struct AppliedPath {
 impl Drop for SharedType {
     #[cycle(release)]
     fn drop(self) {
-        let SharedType { node: _node } = self;
+        if let Some(listed) = self.into_listed() {
+            let (types, ret) = listed;
+            release_all(types, ret);
+        }
     }
 }
 
 impl Drop for TypeNode {
-    #[cycle(release)]
     fn drop(self) {
         match self {
             TypeNode::Tuple(_types) => {}
@@ -97,7 +101,6 @@ impl Drop for TypeNode {
 }
 
 impl Drop for AppliedPath {
-    #[cycle(release)]
     fn drop(self) {
         let AppliedPath {
             path: _path,

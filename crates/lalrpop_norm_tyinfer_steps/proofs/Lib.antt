@@ -16,11 +16,11 @@ mod SharedLevels
 pub mod StopLemmas
 pub mod TokenLemmas
 mod TupleSizes
-mod TypeWeights
 pub mod ValueLemmas
 pub mod VisitLemmas
 mod WaitingLemmas
 mod WrapperLemmas
+mod PairLemmas
 mod QueueLemmas
 mod WrittenSizes
 mod WrittenSymbols

@@ -4,7 +4,7 @@ pub mod Inferred
 pub mod Literals
 pub mod Needs
 pub mod Numbered
-pub mod SameApplied
+pub mod Pairs
 pub mod Stops
 pub mod TableFaults
 pub mod TableValues

@@ -108,7 +108,7 @@ fn check_same(
     match (given, own) {
         (None, _) => Ok(()),
         (Some(given), Some(own)) => {
-            if is_same_type(given, own) {
+            if is_same_type(alloc, given, own)? {
                 return Ok(());
             }
             Err(refusal(
