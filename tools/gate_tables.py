@@ -6,7 +6,7 @@ ROOT = os.path.dirname(os.path.dirname(os.path.abspath(__file__)))
 RECORD = os.path.join(ROOT, "out", "gate.jsonl")
 PAGE = os.path.join(ROOT, "docs", "work", "GATE.md")
 BEGIN, END = "<!-- tools/gate --record writes from here -->\n", "<!-- to here -->\n"
-HEAD = ["Crate", "proof", "tests", "base", "edits", "runs", "number of edits", "all", "wall", "MB"]
+HEAD = ["Crate", "proof", "base", "edits", "runs", "number of edits", "all", "wall", "MB"]
 
 
 def records():
@@ -38,7 +38,7 @@ def crate_row(rows, crate):
     mine = [row for row in rows if row["crate"] == crate]
     wall = sum(row["wall"] for row in mine if row["kind"] == "proof")
     edits = sum(row["kind"] == "edits" for row in mine)
-    cells = [total(rows, crate, kind) for kind in ("proof", "tests", "base", "edits", "runs")]
+    cells = [total(rows, crate, *kinds) for kinds in (("proof", "tests"), ("base",), ("edits",), ("runs",))]
     return [crate, *[f"{cell:.0f}" for cell in cells], str(edits), f"{sum(cells):.0f}", f"{wall:.0f}",
             f"{max((row['kilobytes'] for row in mine), default=0) / 1024:.0f}"]
 
