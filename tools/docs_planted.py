@@ -31,7 +31,7 @@ PLANTED = (
     ("the action of a node", "docs/language/READING.md", r"action (\d+) +plus_more_pair", more),
     ("minutes of the whole gate", "README.md", r"whole gate takes (\d+) minutes", more),
     ("a price", "docs/work/CHANGING.md", r"and above: \d+ crates, ([\d,]+)0 seconds", more),
-    ("a mutant of a crate", "crates/lalrpop_norm_nodes/README.md", r"`must-fail/` has (?:\w+) mutants:?[^`]*`(\w+)`", without_last_letter),
+    ("a mutant of a crate", "crates/lalrpop_norm_tyinfer/README.md", r"`must-fail/` has (?:\w+) mutants:?[^`]*`(\w+)`", without_last_letter),
     ("a path", "docs/work/ARCHITECTURE.md", r"`(tools/docs)`", without_last_letter),
     ("a private phrase", "docs/use/CALLS.md", r"out of (memory)", lambda match: "want of memory"),
 )
